@@ -1,0 +1,79 @@
+-- Residues of whole numbers, of 64-bit numbers and of six-digit numbers. Assumes nothing.
+use mathlib.Core.Path.{_≡_, refl, sym, ap, ap₂, _∙_}
+use Prim.Native.Nat.{ℕ, _+_, _-_, _*_, _%_, _^_, _≤_, _<_}
+use native.Mathlib.Nat.{mod-lt, mod-mod, add-mod, add-mul, mul-le-mul-left}
+use native.Mathlib.Omega.{arith}
+use lib.Dec.{lit<, eqb, ltb}
+use lib.IntN.{ℤ, pos, negsuc, natAbs, _+ℤ_}
+use mir.Syntax.{w64}
+use mir.Val.{SFits, toZ, ofZ}
+use mir.Facts.{sfits-toZ}
+use borrow.Author.Differences.{up, down}
+use Rattle.std.specs.Orderings.{Decides}
+use Rattle.std.proofs.shelf.Signed.{ints, ofZ-toZ, toZ-ofZ, remEuclid-is}
+use Rattle.std.proofs.shelf.Tests.{eqb-true, eq-eqb, cond-true, lt-ltb}
+use Rattle.quantity.specs.Modulo.{Residue, residue-path, residue, modulo}
+use Rattle.quantity.specs.Masses.{counts, grams}
+use Rattle.quantity.specs.Totalisers.{taken}
+
+module _ (m : ℕ) (some : 0 < m) where
+  -- z plus k times m is the natural n
+  lifted : (z : ℤ) (k n : ℕ) → z +ℤ pos (k * m) ≡ pos n → residue m some z .0 ≡ n % m
+  lifted z k n e = ap (λ r. natAbs r % m) (remEuclid-is z (pos m) m k n some refl e) ∙ mod-mod n m
+
+  -- z plus (down z) times m, which is a natural
+  lift : ℤ → ℕ
+  lift z = up z + down z * m - down z
+
+  lift-is : (z : ℤ) → z +ℤ pos (down z * m) ≡ pos (lift z)
+  unfolding lift
+  lift-is z = let far : down z * 1 ≤ down z * m = mul-le-mul-left (down z) some in omega (arith, ints)
+
+  pub residue-plus : (a b : ℤ) → residue m some (a +ℤ b) ≡ modulo m some .plus (residue m some a) (residue m some b)
+  residue-plus a b =
+      let more = add-mul (down a) (down b) m in
+      let from = lift-is a in
+      let to = lift-is b in
+      residue-path
+      (lifted (a +ℤ b) (down a + down b) (lift a + lift b) (omega (arith, ints)) ∙ add-mod (lift a) (lift b) m
+      ∙ ap₂ (λ x y. (x + y) % m) (sym (lifted a (down a) (lift a) from)) (sym (lifted b (down b) (lift b) to)))
+
+-- a test of two numbers for equality tells whether the residues that they stand for are one
+pub residue-test : {m : ℕ} (x y : Residue m) (a b : ℕ) → a ≡ x .0 → b ≡ y .0 → Decides (eqb a b) (x ≡ y)
+residue-test x y a b p q =
+    (λ e. residue-path (sym p ∙ eqb-true a b e ∙ q), λ e. eq-eqb a b (p ∙ ap (λ r. r .0) e ∙ sym q))
+
+pub grams-bits : (z : ℤ) → SFits w64 z → grams z .0 ≡ ofZ w64 z
+grams-bits (pos n) f = omega arith
+grams-bits (negsuc n) f = omega arith
+
+grams-of-bits : (n : ℕ) → n < 2 ^ 64 → grams (toZ w64 n) .0 ≡ n
+grams-of-bits n h = grams-bits (toZ w64 n) (sfits-toZ (record { fits = h })) ∙ ofZ-toZ w64 n h
+
+-- what the wrapping operations on 64 bits say of counts
+module _ (a : ℤ) (fits : SFits w64 a) where
+  pub grams-minus : grams (toZ w64 ((2 ^ 64 - ofZ w64 a) % 2 ^ 64)) ≡ counts .minus (grams a)
+  grams-minus =
+      residue-path (grams-of-bits _ (mod-lt _ (lit< tt)) ∙ ap (λ x. (2 ^ 64 - x) % 2 ^ 64) (sym (grams-bits a fits)))
+
+  module _ (b : ℤ) (fits-b : SFits w64 b) where
+    pub grams-plus : grams (toZ w64 ((ofZ w64 a + ofZ w64 b) % 2 ^ 64)) ≡ counts .plus (grams a) (grams b)
+    grams-plus =
+        residue-path
+        (grams-of-bits _ (mod-lt _ (lit< tt)) ∙ ap₂ (λ x y. (x + y) % 2 ^ 64) (sym (grams-bits a fits)) (sym (grams-bits b fits-b)))
+
+    pub grams-test : Decides (eqb (ofZ w64 a) (ofZ w64 b)) (grams a ≡ grams b)
+    grams-test = residue-test (grams a) (grams b) (ofZ w64 a) (ofZ w64 b) (sym (grams-bits a fits)) (sym (grams-bits b fits-b))
+
+    -- 64-bit numbers that mean one count are equal
+    pub grams-same : grams a ≡ grams b → a ≡ b
+    grams-same e =
+        sym (toZ-ofZ w64 a fits) ∙ ap (toZ w64) (sym (grams-bits a fits) ∙ ap (λ x. x .0) e ∙ grams-bits b fits-b)
+        ∙ toZ-ofZ w64 b fits-b
+
+-- six digits are taken as they stand
+pub taken-small : (n : ℕ) → n < 1000000 → taken n ≡ n
+taken-small n h = cond-true (ltb n 1000000) n 0 (lt-ltb n 1000000 h)
+
+pub taken-rest : (n : ℕ) → taken (n % 1000000) ≡ n % 1000000
+taken-rest n = taken-small (n % 1000000) (omega arith)

@@ -1,0 +1,9 @@
+pub mod Group
+pub mod Model
+pub mod Remainders
+pub mod Modulo
+pub mod Sums
+pub mod Bytes
+pub mod Masses
+pub mod Totalisers
+pub mod Sheet

@@ -1,0 +1,61 @@
+//! Components: four masses side by side.
+ghost use Rattle.quantity.specs.Masses.{components-model};
+use crate::Quantity;
+use crate::mass::Mass;
+use crate::mass::MassQuantity;
+
+/// The masses of four components, summed one by one.
+#[derive(Clone, Copy)]
+pub struct Components {
+    pub first: Mass,
+    pub second: Mass,
+    pub third: Mass,
+    pub fourth: Mass,
+}
+
+pub impl Quantity for Components as ComponentsQuantity {
+    ghost model = { components-model };
+
+    fn zero() -> Components {
+        Components {
+            first: Mass::zero(),
+            second: Mass::zero(),
+            third: Mass::zero(),
+            fourth: Mass::zero(),
+        }
+    }
+
+    fn plus(self, other: Components) -> Components {
+        Components {
+            first: self.first.plus(other.first),
+            second: self.second.plus(other.second),
+            third: self.third.plus(other.third),
+            fourth: self.fourth.plus(other.fourth),
+        }
+    }
+
+    fn negative(self) -> Components {
+        Components {
+            first: self.first.negative(),
+            second: self.second.negative(),
+            third: self.third.negative(),
+            fourth: self.fourth.negative(),
+        }
+    }
+
+    fn same(self, other: Components) -> bool {
+        self.first.same(other.first)
+            && self.second.same(other.second)
+            && self.third.same(other.third)
+            && self.fourth.same(other.fourth)
+    }
+
+    fn nonzero() -> Components {
+        Components {
+            first: Mass::nonzero(),
+            second: Mass::zero(),
+            third: Mass::zero(),
+            fourth: Mass::zero(),
+        }
+    }
+}

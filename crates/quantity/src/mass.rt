@@ -1,0 +1,31 @@
+//! Masses: signed counts of grams that wrap.
+ghost use Rattle.quantity.specs.Masses.{mass-model};
+use crate::Quantity;
+
+/// A signed count of grams. It means that count modulo 2^64: sums and negatives wrap.
+#[derive(Clone, Copy)]
+pub struct Mass(pub i64);
+
+pub impl Quantity for Mass as MassQuantity {
+    ghost model = { mass-model };
+
+    fn zero() -> Mass {
+        Mass(0)
+    }
+
+    fn plus(self, other: Mass) -> Mass {
+        Mass(self.0.wrapping_add(other.0))
+    }
+
+    fn negative(self) -> Mass {
+        Mass(self.0.wrapping_neg())
+    }
+
+    fn same(self, other: Mass) -> bool {
+        self.0 == other.0
+    }
+
+    fn nonzero() -> Mass {
+        Mass(1)
+    }
+}

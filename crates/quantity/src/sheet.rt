@@ -1,0 +1,120 @@
+//! Quantities that can stand in a sheet, as eight bytes.
+ghost use Prim.Native.Nat.{ℕ};
+ghost use mathlib.Core.Path.{_≡_};
+ghost use mathlib.Core.List.{List};
+ghost use Rattle.std.specs.Options.{Cases, isSome};
+ghost use Rattle.quantity.specs.Bytes.{Eight, little, signed};
+ghost use Rattle.quantity.specs.Masses.{bounded};
+ghost use Rattle.quantity.specs.Sheet.{SheetForm, Holds, mass-form, totaliser-form};
+use crate::Quantity;
+use crate::mass::Mass;
+use crate::mass::MassQuantity;
+use crate::totaliser::TURN;
+use crate::totaliser::Totaliser;
+use crate::totaliser::TotaliserQuantity;
+
+/// A quantity that can stand in a sheet.
+///
+/// An implementation gives its `form`: the code that names the quantity in a sheet's head, and the amount that eight
+/// bytes hold, none where they are outside its bounds.
+pub trait SheetQuantity: Quantity {
+    ghost form: { SheetForm Self };
+
+    /// The code that names the quantity in a sheet's head.
+    fn code() -> u8
+        ensures { λ r. ⌜ r ≡ form .code ⌝ };
+
+    /// The amount that the bytes hold; none where they are outside the bounds.
+    fn from_bytes(bytes: [u8; 8]) -> Option<Self>
+        ensures { λ r. ⌜ r ≡ form .holds bytes ⌝ };
+
+    /// The eight bytes that hold the amount; none where no eight bytes within the bounds do.
+    fn to_bytes(self) -> Option<[u8; 8]>
+        ensures { λ r. ⌜ Cases r ((bs : List ℕ) → Eight bs → Holds (Self·Quantity .model) form bs self → ⊥) (λ bs. Holds (Self·Quantity .model) form bs self) ⌝ };
+
+    /// Whether the bytes are within the bounds.
+    fn fits(bytes: [u8; 8]) -> bool
+        ensures { λ r. ⌜ r ≡ isSome (form .holds bytes) ⌝ }
+    {
+        Self::from_bytes(bytes).is_some()
+    }
+}
+
+/// The largest count of grams, either way, that a sheet holds.
+const BOUND: i64 = 1_000_000_000_000;
+
+fn within_bound(grams: i64) -> bool
+    ensures { λ r. ⌜ r ≡ bounded grams ⌝ }
+{
+    -BOUND <= grams && grams <= BOUND
+}
+
+fn signed_number(bytes: [u8; 8]) -> i64
+    ensures { λ r. ⌜ r ≡ signed bytes ⌝ }
+{
+    i64::from_le_bytes(bytes)
+}
+
+fn number(bytes: [u8; 8]) -> u64
+    ensures { λ r. ⌜ r ≡ little bytes ⌝ }
+{
+    u64::from_le_bytes(bytes)
+}
+
+fn signed_bytes(number: i64) -> [u8; 8]
+    ensures { λ r. ⌜ signed r ≡ number ⌝ }
+{
+    number.to_le_bytes()
+}
+
+fn bytes_of(number: u64) -> [u8; 8]
+    ensures { λ r. ⌜ little r ≡ number ⌝ }
+{
+    number.to_le_bytes()
+}
+
+pub impl SheetQuantity for Mass as MassSheet {
+    ghost form = { mass-form };
+
+    fn code() -> u8 {
+        1
+    }
+
+    fn from_bytes(bytes: [u8; 8]) -> Option<Mass> {
+        let grams = signed_number(bytes);
+        if within_bound(grams) {
+            Some(Mass(grams))
+        } else {
+            None
+        }
+    }
+
+    fn to_bytes(self) -> Option<[u8; 8]> {
+        if within_bound(self.0) {
+            Some(signed_bytes(self.0))
+        } else {
+            None
+        }
+    }
+}
+
+pub impl SheetQuantity for Totaliser as TotaliserSheet {
+    ghost form = { totaliser-form };
+
+    fn code() -> u8 {
+        2
+    }
+
+    fn from_bytes(bytes: [u8; 8]) -> Option<Totaliser> {
+        let advance = number(bytes);
+        if advance < u64::from(TURN) {
+            Some(Totaliser(advance as u32))
+        } else {
+            None
+        }
+    }
+
+    fn to_bytes(self) -> Option<[u8; 8]> {
+        Some(bytes_of(u64::from(self.advance())))
+    }
+}

@@ -1,0 +1,56 @@
+//! Totalisers: advances of a six-digit roll-over counter.
+ghost use mathlib.Core.Path.{_≡_};
+ghost use Prim.Native.Nat.{_+_, _-_, _%_};
+ghost use Rattle.quantity.specs.Totalisers.{taken, totaliser-model};
+use crate::Quantity;
+
+/// The number of advances after which the counter shows the same six digits again.
+pub const TURN: u32 = 1_000_000;
+
+/// The advance of a six-digit roll-over counter, from 0 to 999,999.
+///
+/// It is a plain number, so that tables can hold it: a number above 999,999 is taken as the advance 0 wherever it
+/// stands. There is no `==`, which would tell such a number from 0; use [`Quantity::same`].
+#[derive(Clone, Copy)]
+pub struct Totaliser(pub u32);
+
+impl Totaliser {
+    /// The advance that the number is taken as, from 0 to 999,999.
+    pub fn advance(self) -> u32
+        ensures { λ r. ⌜ r ≡ taken (self .0) ⌝ }
+    {
+        if self.0 < TURN { self.0 } else { 0 }
+    }
+}
+
+pub impl Quantity for Totaliser as TotaliserQuantity {
+    ghost model = { totaliser-model };
+
+    fn zero() -> Totaliser {
+        Totaliser(0)
+    }
+
+    /// The remainder of the plain sum by 1,000,000.
+    fn plus(self, other: Totaliser) -> Totaliser
+        ensures means { λ r. ⌜ totaliser-model .means r ≡ totaliser-model .group .plus (totaliser-model .means self) (totaliser-model .means other) ⌝ }
+        ensures value { λ r. ⌜ r .0 ≡ (taken (self .0) + taken (other .0)) % 1000000 ⌝ }
+    {
+        Totaliser((self.advance() + other.advance()) % TURN)
+    }
+
+    /// What is missing to 1,000,000; of 0 it is 0.
+    fn negative(self) -> Totaliser
+        ensures means { λ r. ⌜ totaliser-model .means r ≡ totaliser-model .group .minus (totaliser-model .means self) ⌝ }
+        ensures value { λ r. ⌜ r .0 ≡ (1000000 - taken (self .0)) % 1000000 ⌝ }
+    {
+        Totaliser((TURN - self.advance()) % TURN)
+    }
+
+    fn same(self, other: Totaliser) -> bool {
+        self.advance() == other.advance()
+    }
+
+    fn nonzero() -> Totaliser {
+        Totaliser(1)
+    }
+}
