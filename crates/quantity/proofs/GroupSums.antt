@@ -21,9 +21,9 @@ pub sum-map : (G : Group) {Q : Type 0} (means : Q → G .Element) (xs : List Q) 
 sum-map G means xs = ap (λ n. sum G n (λ k. getD (map means xs) k (G .zero))) (length-map xs means)
 
 -- one more value of the list
-pub sum-map-more : (G : Group) {Q : Type 0} (means : Q → G .Element) (xs : List Q) (i : ℕ) (x : Q) → i < length xs → x ≡ getD xs i x → G .plus (sum G i (λ k. getD (map means xs) k (G .zero))) (means x) ≡ sum G (i + 1) (λ k. getD (map means xs) k (G .zero))
-sum-map-more G means xs i x h read =
-    ap (G .plus _) (ap means read ∙ sym (getD-map means xs i x (G .zero) h)) ∙ sym (sum-more G i _)
+pub sum-map-more : (G : Group) {Q : Type 0} (means : Q → G .Element) (xs : List Q) (i : ℕ) (x : Q) (before after : G .Element) → i < length xs → x ≡ getD xs i x → before ≡ sum G i (λ k. getD (map means xs) k (G .zero)) → after ≡ G .plus before (means x) → after ≡ sum G (i + 1) (λ k. getD (map means xs) k (G .zero))
+sum-map-more G means xs i x before after h read old new =
+    new ∙ ap₂ (G .plus) old (ap means read ∙ sym (getD-map means xs i x (G .zero) h)) ∙ sym (sum-more G i _)
 
 -- a map that keeps zero and sums keeps the sums of lists
 module _ (G H : Group) (h : G .Element → H .Element) (none : h (G .zero) ≡ H .zero) (more : (x y : G .Element) → h (G .plus x y) ≡ H .plus (h x) (h y)) where

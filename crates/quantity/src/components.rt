@@ -1,8 +1,13 @@
 //! Components: four masses side by side.
+ghost use mathlib.Core.List.{_++_};
+ghost use lib.Chars.{codes};
+ghost use Rattle.std.specs.Written.{signed};
+ghost use Rattle.std.specs.declared.option.Option.the-variants.{Some};
 ghost use Rattle.quantity.specs.Masses.{components-model};
 use crate::Quantity;
 use crate::mass::Mass;
 use crate::mass::MassQuantity;
+use std::fmt;
 
 /// The masses of four components, summed one by one.
 #[derive(Clone, Copy)]
@@ -57,5 +62,18 @@ pub impl Quantity for Components as ComponentsQuantity {
             third: Mass::zero(),
             fourth: Mass::zero(),
         }
+    }
+}
+
+/// The four masses in decimal, a space between two.
+pub impl fmt::Display for Components as ComponentsDisplay {
+    ghost shown = { λ c. Some (signed (c .first .0) ++ (codes " " ++ (signed (c .second .0) ++ (codes " " ++ (signed (c .third .0) ++ (codes " " ++ signed (c .fourth .0))))))) };
+
+    fn fmt<W: fmt::Write>(&self, f: &mut fmt::Formatter<W>) -> fmt::Result {
+        let first = self.first.0;
+        let second = self.second.0;
+        let third = self.third.0;
+        let fourth = self.fourth.0;
+        write!(f, "{first} {second} {third} {fourth}")
     }
 }

@@ -11,6 +11,8 @@ pub mod components;
 pub mod mass;
 pub mod sheet;
 pub mod sums;
+#[cfg(test)]
+mod tests;
 pub mod totaliser;
 
 /// An amount that means an element of an abelian group.

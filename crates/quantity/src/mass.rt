@@ -1,6 +1,9 @@
 //! Masses: signed counts of grams that wrap.
+ghost use Rattle.std.specs.Written.{signed};
+ghost use Rattle.std.specs.declared.option.Option.the-variants.{Some};
 ghost use Rattle.quantity.specs.Masses.{mass-model};
 use crate::Quantity;
+use std::fmt;
 
 /// A signed count of grams. It means that count modulo 2^64: sums and negatives wrap.
 #[derive(Clone, Copy)]
@@ -27,5 +30,15 @@ pub impl Quantity for Mass as MassQuantity {
 
     fn nonzero() -> Mass {
         Mass(1)
+    }
+}
+
+/// The grams, in decimal.
+pub impl fmt::Display for Mass as MassDisplay {
+    ghost shown = { λ m. Some (signed (m .0)) };
+
+    fn fmt<W: fmt::Write>(&self, f: &mut fmt::Formatter<W>) -> fmt::Result {
+        let grams = self.0;
+        write!(f, "{grams}")
     }
 }

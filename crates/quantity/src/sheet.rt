@@ -40,6 +40,12 @@ pub trait SheetQuantity: Quantity {
     }
 }
 
+/// The code of masses.
+const MASS_CODE: u8 = 1;
+
+/// The code of totalisers.
+const TOTALISER_CODE: u8 = 2;
+
 /// The largest count of grams, either way, that a sheet holds.
 const BOUND: i64 = 1_000_000_000_000;
 
@@ -77,7 +83,7 @@ pub impl SheetQuantity for Mass as MassSheet {
     ghost form = { mass-form };
 
     fn code() -> u8 {
-        1
+        MASS_CODE
     }
 
     fn from_bytes(bytes: [u8; 8]) -> Option<Mass> {
@@ -102,7 +108,7 @@ pub impl SheetQuantity for Totaliser as TotaliserSheet {
     ghost form = { totaliser-form };
 
     fn code() -> u8 {
-        2
+        TOTALISER_CODE
     }
 
     fn from_bytes(bytes: [u8; 8]) -> Option<Totaliser> {

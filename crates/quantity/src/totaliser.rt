@@ -1,8 +1,12 @@
 //! Totalisers: advances of a six-digit roll-over counter.
 ghost use mathlib.Core.Path.{_≡_};
-ghost use Prim.Native.Nat.{_+_, _-_, _%_};
+ghost use Prim.Native.Nat.{_+_, _-_, _%_, _≤_};
+ghost use Rattle.std.specs.Orderings.{Decides};
+ghost use Rattle.std.specs.Written.{decimal};
+ghost use Rattle.std.specs.declared.option.Option.the-variants.{Some};
 ghost use Rattle.quantity.specs.Totalisers.{taken, totaliser-model};
 use crate::Quantity;
+use std::fmt;
 
 /// The number of advances after which the counter shows the same six digits again.
 pub const TURN: u32 = 1_000_000;
@@ -20,6 +24,13 @@ impl Totaliser {
         ensures { λ r. ⌜ r ≡ taken (self .0) ⌝ }
     {
         if self.0 < TURN { self.0 } else { 0 }
+    }
+
+    /// Whether a counter that stands here passes 999,999 when it moves on by `more`.
+    pub fn rolls_over(self, more: Totaliser) -> bool
+        ensures { λ r. ⌜ Decides r (1000000 ≤ taken (self .0) + taken (more .0)) ⌝ }
+    {
+        self.advance() + more.advance() >= TURN
     }
 }
 
@@ -52,5 +63,15 @@ pub impl Quantity for Totaliser as TotaliserQuantity {
 
     fn nonzero() -> Totaliser {
         Totaliser(1)
+    }
+}
+
+/// The advance, in decimal: a number above 999,999 is written as 0.
+pub impl fmt::Display for Totaliser as TotaliserDisplay {
+    ghost shown = { λ t. Some (decimal (taken (t .0))) };
+
+    fn fmt<W: fmt::Write>(&self, f: &mut fmt::Formatter<W>) -> fmt::Result {
+        let advance = self.advance();
+        write!(f, "{advance}")
     }
 }
