@@ -1,7 +1,7 @@
 -- Residues of whole numbers, of 64-bit numbers and of six-digit numbers. Assumes nothing.
 use mathlib.Core.Path.{_≡_, refl, sym, ap, ap₂, _∙_}
 use Prim.Native.Nat.{ℕ, _+_, _-_, _*_, _%_, _^_, _≤_, _<_}
-use native.Mathlib.Nat.{mod-lt, mod-mod, add-mod, add-mul, mul-le-mul-left}
+use native.Mathlib.Nat.{mod-lt, mod-mod, mod-eq-of-lt, add-mod, add-mul, mul-le-mul-left}
 use native.Mathlib.Omega.{arith}
 use lib.Dec.{lit<, eqb, ltb}
 use lib.IntN.{ℤ, pos, negsuc, natAbs, _+ℤ_}
@@ -11,10 +11,10 @@ use mir.Facts.{sfits-toZ}
 use borrow.Author.Differences.{up, down}
 use Rattle.std.specs.Orderings.{Decides}
 use Rattle.std.proofs.shelf.Signed.{ints, ofZ-toZ, toZ-ofZ, remEuclid-is}
-use Rattle.std.proofs.shelf.Tests.{eqb-true, eq-eqb, cond-true, lt-ltb}
+use Rattle.std.proofs.shelf.Tests.{eqb-true, eq-eqb, cond-true, cond-both, lt-ltb, ltb-true}
 use Rattle.quantity.specs.Modulo.{Residue, residue-path, residue, modulo}
 use Rattle.quantity.specs.Masses.{counts, grams}
-use Rattle.quantity.specs.Totalisers.{taken}
+use Rattle.quantity.specs.Totalisers.{taken, advances, advance}
 
 module _ (m : ℕ) (some : 0 < m) where
   -- z plus k times m is the natural n
@@ -75,5 +75,27 @@ module _ (a : ℤ) (fits : SFits w64 a) where
 pub taken-small : (n : ℕ) → n < 1000000 → taken n ≡ n
 taken-small n h = cond-true (ltb n 1000000) n 0 (lt-ltb n 1000000 h)
 
-pub taken-rest : (n : ℕ) → taken (n % 1000000) ≡ n % 1000000
-taken-rest n = taken-small (n % 1000000) (omega arith)
+pub taken-below : (n : ℕ) → taken n < 1000000
+taken-below n = cond-both (ltb n 1000000) n 0 (λ d. d < 1000000) (ltb-true n 1000000) (λ _. lit< tt)
+
+-- the advance that a number means, as a number
+pub advance-taken : (n : ℕ) → advance n .0 ≡ taken n
+advance-taken n = mod-eq-of-lt (taken-below n)
+
+-- what the remainder by 1,000,000 means
+pub advance-rest : (n : ℕ) → advance (n % 1000000) .0 ≡ n % 1000000
+advance-rest n = advance-taken (n % 1000000) ∙ taken-small (n % 1000000) (mod-lt n (lit< tt))
+
+pub advance-plus : (a b r : ℕ) → r ≡ (taken a + taken b) % 1000000 → advance r ≡ advances .plus (advance a) (advance b)
+advance-plus a b r e =
+    residue-path
+    (ap (λ n. advance n .0) e ∙ advance-rest (taken a + taken b)
+    ∙ ap₂ (λ x y. (x + y) % 1000000) (sym (advance-taken a)) (sym (advance-taken b)))
+
+pub advance-minus : (a r : ℕ) → r ≡ (1000000 - taken a) % 1000000 → advance r ≡ advances .minus (advance a)
+advance-minus a r e =
+    residue-path
+    (ap (λ n. advance n .0) e ∙ advance-rest (1000000 - taken a) ∙ ap (λ x. (1000000 - x) % 1000000) (sym (advance-taken a)))
+
+pub advance-test : (a b x y : ℕ) → x ≡ taken a → y ≡ taken b → Decides (eqb x y) (advance a ≡ advance b)
+advance-test a b x y p q = residue-test (advance a) (advance b) x y (p ∙ sym (advance-taken a)) (q ∙ sym (advance-taken b))

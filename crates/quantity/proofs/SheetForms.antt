@@ -2,7 +2,7 @@
 use mathlib.Core.Bool.{Bool, true, false, cond}
 use mathlib.Core.List.{List}
 use mathlib.Core.Path.{_≡_, refl, sym, ap, _∙_}
-use Prim.Native.Nat.{ℕ, _<_}
+use Prim.Native.Nat.{ℕ, _<_, _%_}
 use lib.Dec.{ltb}
 use lib.IntN.{ℤ}
 use mir.Syntax.{w64}
@@ -15,9 +15,9 @@ use Rattle.quantity.specs.Bytes.{Eight, little, signed}
 use Rattle.quantity.specs.Masses.{grams, mass-model, bounded}
 use Rattle.quantity.specs.Modulo.{residue-path}
 use Rattle.quantity.specs.Sheet.{Holds, mass-form, totaliser-form}
-use Rattle.quantity.specs.Totalisers.{taken, taken-below, totaliser-model}
+use Rattle.quantity.specs.Totalisers.{taken, advance, totaliser-model}
 use Rattle.quantity.proofs.EightBytes.{little-below}
-use Rattle.quantity.proofs.Residues.{grams-same, taken-small}
+use Rattle.quantity.proofs.Residues.{grams-same, taken-small, taken-below}
 
 held-if : {X : Type 0} (t : Bool) (x : X) (P : X → Type 0) → t ≡ true → P x → Cases (cond t (Some x) None) ⊥ P
 held-if true x P e h = h
@@ -39,4 +39,4 @@ pub totaliser-held : (n : ℕ) (bs : List ℕ) → little bs ≡ taken n → Hol
 totaliser-held n bs e =
     let below : little bs < 1000000 = rw e (taken-below n) in
     held-if (ltb (little bs) 1000000) (record { 0 = little bs }) (λ b. totaliser-model .means b ≡ totaliser-model .means (record { 0 = n }))
-    (lt-ltb (little bs) 1000000 below) (residue-path (taken-small (little bs) below ∙ e))
+    (lt-ltb (little bs) 1000000 below) (residue-path (ap (λ n. n % 1000000) (taken-small (little bs) below ∙ e)))

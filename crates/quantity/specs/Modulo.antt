@@ -4,15 +4,15 @@
 -- rest m n     what n leaves when divided by m
 -- modulo m     the residues as a group: the sum is the remainder of the plain sum
 -- residue m z  the residue of a whole number of either sign
-use mathlib.Core.Path.{_≡_, ap, _∙_}
+use mathlib.Core.Path.{_≡_, ap}
 use mathlib.Core.HLevel.{Σ-prop-path}
 use native.Mathlib.Bridge.{le-prop}
-use native.Mathlib.Nat.{mod-lt, mod-eq-of-lt, add-comm, zero-add}
+use native.Mathlib.Nat.{mod-lt, add-comm}
 use Prim.Native.Nat.{ℕ, _+_, _-_, _%_, _<_}
 use lib.IntN.{ℤ, pos, natAbs}
 use Rattle.std.specs.Numbers.{remEuclid}
 use Rattle.quantity.specs.Group.{Group}
-use Rattle.quantity.specs.Remainders.{assoc-remainder, inverse-remainder}
+use Rattle.quantity.specs.Remainders.{assoc-remainder, unit-remainder, inverse-remainder}
 
 abbrev pub Residue : ℕ → Type 0
 Residue m = (n : ℕ) × (n < m)
@@ -28,12 +28,12 @@ module _ (m : ℕ) (some : 0 < m) where
   abbrev pub modulo : Group
   modulo = record {
     Element = Residue m;
-    zero = (0, some);
+    zero = rest 0;
     plus = λ x y. rest (x .0 + y .0);
     minus = λ x. rest (m - x .0);
     assoc = λ x y z. residue-path (assoc-remainder m (x .0) (y .0) (z .0));
     comm = λ x y. residue-path (ap (λ n. n % m) (add-comm (x .0) (y .0)));
-    unit = λ x. residue-path (ap (λ n. n % m) (zero-add (x .0)) ∙ mod-eq-of-lt (x .1));
+    unit = λ x. residue-path (unit-remainder m (x .0) (x .1));
     inverse = λ x. residue-path (inverse-remainder m (x .0) (x .1));
   }
 

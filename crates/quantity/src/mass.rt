@@ -1,13 +1,34 @@
 //! Masses: signed counts of grams that wrap.
+ghost use mathlib.Core.Path.{_≡_};
+ghost use Rattle.std.specs.Orderings.{Decides};
 ghost use Rattle.std.specs.Written.{signed};
 ghost use Rattle.std.specs.declared.option.Option.the-variants.{Some};
-ghost use Rattle.quantity.specs.Masses.{mass-model};
+ghost use Rattle.quantity.specs.Masses.{counts, grams, mass-model};
 use crate::Quantity;
 use std::fmt;
 
 /// A signed count of grams. It means that count modulo 2^64: sums and negatives wrap.
 #[derive(Clone, Copy)]
 pub struct Mass(pub i64);
+
+// The operations on counts modulo 2^64.
+fn wrapped_sum(a: i64, b: i64) -> i64
+    ensures { λ r. ⌜ grams r ≡ counts .plus (grams a) (grams b) ⌝ }
+{
+    a.wrapping_add(b)
+}
+
+fn wrapped_negative(a: i64) -> i64
+    ensures { λ r. ⌜ grams r ≡ counts .minus (grams a) ⌝ }
+{
+    a.wrapping_neg()
+}
+
+fn same_count(a: i64, b: i64) -> bool
+    ensures { λ r. ⌜ Decides r (grams a ≡ grams b) ⌝ }
+{
+    a == b
+}
 
 pub impl Quantity for Mass as MassQuantity {
     ghost model = { mass-model };
@@ -17,15 +38,15 @@ pub impl Quantity for Mass as MassQuantity {
     }
 
     fn plus(self, other: Mass) -> Mass {
-        Mass(self.0.wrapping_add(other.0))
+        Mass(wrapped_sum(self.0, other.0))
     }
 
     fn negative(self) -> Mass {
-        Mass(self.0.wrapping_neg())
+        Mass(wrapped_negative(self.0))
     }
 
     fn same(self, other: Mass) -> bool {
-        self.0 == other.0
+        same_count(self.0, other.0)
     }
 
     fn nonzero() -> Mass {

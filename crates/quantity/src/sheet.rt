@@ -6,6 +6,7 @@ ghost use Rattle.std.specs.Options.{Cases, isSome};
 ghost use Rattle.quantity.specs.Bytes.{Eight, little, signed};
 ghost use Rattle.quantity.specs.Masses.{bounded};
 ghost use Rattle.quantity.specs.Sheet.{SheetForm, Holds, mass-form, totaliser-form};
+ghost use Rattle.quantity.specs.Totalisers.{totaliser-model};
 use crate::Quantity;
 use crate::mass::Mass;
 use crate::mass::MassQuantity;
@@ -79,6 +80,12 @@ fn bytes_of(number: u64) -> [u8; 8]
     number.to_le_bytes()
 }
 
+fn advance_bytes(amount: Totaliser) -> [u8; 8]
+    ensures { λ r. ⌜ Holds totaliser-model totaliser-form r amount ⌝ }
+{
+    bytes_of(u64::from(amount.advance()))
+}
+
 pub impl SheetQuantity for Mass as MassSheet {
     ghost form = { mass-form };
 
@@ -121,6 +128,6 @@ pub impl SheetQuantity for Totaliser as TotaliserSheet {
     }
 
     fn to_bytes(self) -> Option<[u8; 8]> {
-        Some(bytes_of(u64::from(self.advance())))
+        Some(advance_bytes(self))
     }
 }

@@ -4,7 +4,7 @@ ghost use Prim.Native.Nat.{_+_, _-_, _%_, _≤_};
 ghost use Rattle.std.specs.Orderings.{Decides};
 ghost use Rattle.std.specs.Written.{decimal};
 ghost use Rattle.std.specs.declared.option.Option.the-variants.{Some};
-ghost use Rattle.quantity.specs.Totalisers.{taken, totaliser-model};
+ghost use Rattle.quantity.specs.Totalisers.{taken, advances, advance, totaliser-model};
 use crate::Quantity;
 use std::fmt;
 
@@ -34,6 +34,27 @@ impl Totaliser {
     }
 }
 
+// The operations on advances modulo 1,000,000.
+fn turned_sum(a: Totaliser, b: Totaliser) -> Totaliser
+    ensures means { λ r. ⌜ advance (r .0) ≡ advances .plus (advance (a .0)) (advance (b .0)) ⌝ }
+    ensures value { λ r. ⌜ r .0 ≡ (taken (a .0) + taken (b .0)) % 1000000 ⌝ }
+{
+    Totaliser((a.advance() + b.advance()) % TURN)
+}
+
+fn turned_negative(a: Totaliser) -> Totaliser
+    ensures means { λ r. ⌜ advance (r .0) ≡ advances .minus (advance (a .0)) ⌝ }
+    ensures value { λ r. ⌜ r .0 ≡ (1000000 - taken (a .0)) % 1000000 ⌝ }
+{
+    Totaliser((TURN - a.advance()) % TURN)
+}
+
+fn same_advance(a: Totaliser, b: Totaliser) -> bool
+    ensures { λ r. ⌜ Decides r (advance (a .0) ≡ advance (b .0)) ⌝ }
+{
+    a.advance() == b.advance()
+}
+
 pub impl Quantity for Totaliser as TotaliserQuantity {
     ghost model = { totaliser-model };
 
@@ -43,22 +64,22 @@ pub impl Quantity for Totaliser as TotaliserQuantity {
 
     /// The remainder of the plain sum by 1,000,000.
     fn plus(self, other: Totaliser) -> Totaliser
-        ensures means { λ r. ⌜ totaliser-model .means r ≡ totaliser-model .group .plus (totaliser-model .means self) (totaliser-model .means other) ⌝ }
+        ensures means { λ r. ⌜ advance (r .0) ≡ advances .plus (advance (self .0)) (advance (other .0)) ⌝ }
         ensures value { λ r. ⌜ r .0 ≡ (taken (self .0) + taken (other .0)) % 1000000 ⌝ }
     {
-        Totaliser((self.advance() + other.advance()) % TURN)
+        turned_sum(self, other)
     }
 
     /// What is missing to 1,000,000; of 0 it is 0.
     fn negative(self) -> Totaliser
-        ensures means { λ r. ⌜ totaliser-model .means r ≡ totaliser-model .group .minus (totaliser-model .means self) ⌝ }
+        ensures means { λ r. ⌜ advance (r .0) ≡ advances .minus (advance (self .0)) ⌝ }
         ensures value { λ r. ⌜ r .0 ≡ (1000000 - taken (self .0)) % 1000000 ⌝ }
     {
-        Totaliser((TURN - self.advance()) % TURN)
+        turned_negative(self)
     }
 
     fn same(self, other: Totaliser) -> bool {
-        self.advance() == other.advance()
+        same_advance(self, other)
     }
 
     fn nonzero() -> Totaliser {
