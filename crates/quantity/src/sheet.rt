@@ -48,12 +48,12 @@ const MASS_CODE: u8 = 1;
 const TOTALISER_CODE: u8 = 2;
 
 /// The largest count of grams, either way, that a sheet holds.
-const BOUND: i64 = 1_000_000_000_000;
+pub const MASS_BOUND: i64 = 1_000_000_000_000;
 
 fn within_bound(grams: i64) -> bool
     ensures { λ r. ⌜ r ≡ bounded grams ⌝ }
 {
-    -BOUND <= grams && grams <= BOUND
+    -MASS_BOUND <= grams && grams <= MASS_BOUND
 }
 
 fn signed_number(bytes: [u8; 8]) -> i64

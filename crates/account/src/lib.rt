@@ -1,0 +1,6 @@
+//! A month's account of one meter: its daily amounts, read from lines of text, and the running total.
+pub mod entry;
+pub mod fault;
+pub mod line;
+pub mod lines;
+pub mod metered;
