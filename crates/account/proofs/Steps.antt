@@ -1,7 +1,7 @@
 -- One more line of an account. Assumes nothing.
 use mathlib.Core.List.{List, [], _∷_, _++_, map}
 use mathlib.Core.Logic.{inl, inr}
-use mathlib.Core.Path.{_≡_, sym, subst}
+use mathlib.Core.Path.{_≡_, sym, _∙_, subst}
 use native.Mathlib.Numerals.{add-one}
 use Prim.Native.Nat.{ℕ, suc, _+_, _<_}
 use denote.Ref.{RefT}
@@ -9,30 +9,36 @@ use lib.ListN.{length, getD}
 use Rattle.std.proofs.shelf.Lists.{getD-map, length-map}
 use Rattle.account.specs.declared.entry.Entry.{Entry}
 use Rattle.account.specs.declared.fault.Fault.{Fault}
-use Rattle.account.specs.Lines.{texts, Passed, Gives, NoEntry, Reads, Stops}
+use Rattle.account.specs.Lines.{texts, Passed, Gives, NoEntry, Reads, Entries, Stops}
 
-module _ {Q : Type 0} (W : List ℕ → Q → Type 0) (xs : List (RefT (List ℕ))) (n : ℕ) (d : RefT (List ℕ)) (inside : n < length xs) (es : List (Entry Q)) (c : ℕ) (before : Reads W (texts xs) n es c) where
+module _ {Q : Type 0} (W : List ℕ → Q → Type 0) (H : List ℕ) (xs : List (RefT (List ℕ))) (n : ℕ) (d : RefT (List ℕ)) (inside : n < length xs) (es : List (Entry Q)) (c : ℕ) (before : Reads W H (texts xs) n es c) where
   -- what is said of the line at place n, said of the text at place n
   of-text : (P : List ℕ → Type 0) → P (getD xs n d .now) → P (getD (texts xs) n [])
   of-text P = subst P (sym (getD-map (λ x. x .now) xs n d [] inside))
 
-  next : (fs : List (Entry Q)) (b : ℕ) → Reads W (texts xs) (suc n) fs b → Reads W (texts xs) (n + 1) fs b
-  next fs b h = let P : ℕ → Type 0 = λ k. Reads W (texts xs) k fs b in subst P (sym (add-one n)) h
+  next : (fs : List (Entry Q)) (b : ℕ) → Reads W H (texts xs) (suc n) fs b → Reads W H (texts xs) (n + 1) fs b
+  next fs b h = let P : ℕ → Type 0 = λ k. Reads W H (texts xs) k fs b in subst P (sym (add-one n)) h
 
-  pub reads-passed : Passed (getD xs n d .now) → (fs : List (Entry Q)) (b : ℕ) → fs ≡ es → b ≡ c → Reads W (texts xs) (n + 1) fs b
+  pub reads-passed : Passed H n (getD xs n d .now) → (fs : List (Entry Q)) (b : ℕ) → fs ≡ es → b ≡ c → Reads W H (texts xs) (n + 1) fs b
   reads-passed h fs b is is-day =
-      let P : List (Entry Q) → Type 0 = λ es. Reads W (texts xs) n es b in
-      let before : Reads W (texts xs) n fs b = subst P (sym is) (subst (Reads W (texts xs) n es) (sym is-day) before) in
-      next fs b (inl (of-text Passed h, before))
+      let P : List (Entry Q) → Type 0 = λ es. Reads W H (texts xs) n es b in
+      let before : Reads W H (texts xs) n fs b = subst P (sym is) (subst (Reads W H (texts xs) n es) (sym is-day) before) in
+      next fs b (inl (of-text (Passed H n) h, before))
 
-  pub reads-entry : (e : Entry Q) → Gives W (getD xs n d .now) e × (c < e .day) → (fs : List (Entry Q)) (b : ℕ) → fs ≡ es ++ (e ∷ []) → b ≡ e .day → Reads W (texts xs) (n + 1) fs b
+  pub reads-entry : (e : Entry Q) → Gives W (getD xs n d .now) e × (c < e .day) → (fs : List (Entry Q)) (b : ℕ) → fs ≡ es ++ (e ∷ []) → b ≡ e .day → Reads W H (texts xs) (n + 1) fs b
   reads-entry e h fs b is is-day = next fs b (inr (es, c, e, before, of-text (λ l. Gives W l e) (h .0), h .1, is, is-day))
 
-  pub stops-here : (f : Fault) → NoEntry W (getD xs n d .now) c f → Stops W (texts xs) n f
-  stops-here f h = record {
+  pub stops-here : (f : Fault) → (Passed H n (getD xs n d .now) → ⊥) → NoEntry W (getD xs n d .now) c f → Stops W H (texts xs) n f
+  stops-here f no-pass h = record {
     inside = simp length-map inside;
+    counts = of-text (λ l. Passed H n l → ⊥) no-pass;
     entries = es;
     latest = c;
     before = before;
     reason = of-text (λ l. NoEntry W l c f) h;
   }
+
+-- the lines, once each of them is read
+pub reads-all : {Q : Type 0} (W : List ℕ → Q → Type 0) (H : List ℕ) (xs : List (RefT (List ℕ))) (n : ℕ) (es : List (Entry Q)) (c : ℕ) → Reads W H (texts xs) n es c → n ≡ length xs → Entries W H (texts xs) es
+reads-all W H xs n es c h is =
+    let P : ℕ → Type 0 = λ k. Reads W H (texts xs) k es c in (c, subst P (is ∙ sym (length-map xs (λ x. x .now))) h)

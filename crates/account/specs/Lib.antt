@@ -1,2 +1,5 @@
 pub mod Texts
+pub mod Headings
 pub mod Lines
+pub mod Months
+pub mod Rows

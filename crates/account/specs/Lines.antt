@@ -1,16 +1,18 @@
 -- The lines of an account. Assumes nothing.
 --
--- A line is the list of its bytes. W bs a is for: the bytes bs write the amount a.
+-- A line is the list of its bytes. H is the heading of the account, and W bs a is for: the bytes bs write the amount a.
 --
--- Passed l           the line is passed over: it is empty or begins with #
--- Cut l d a          the first space of the line l stands between d and a
--- Gives W l e        the line gives the entry e: its day, a space, its amount
--- NoEntry W l c f    the line gives no entry for a day after c, for the reason f
--- Reads W ls n es c  the first n of the lines ls give the entries es, each for a later day than the one before;
---                    c is the day of the last, 0 where there is none
--- Stops W ls n f     the line at place n gives no next entry, for the reason f, and those before it are read
--- NotRead W ls e     what an error says of the lines: which one stops; nothing where memory failed
--- texts xs           what the references xs point to
+-- Passed H n l         the line l at place n is passed over: it is empty, begins with #, or is the heading in the first place
+-- Cut l d a            the first space of the line l stands between d and a
+-- Gives W l e          the line gives the entry e: its day, a space, its amount
+-- NoEntry W l c f      the line gives no entry for a day after c; f is the first reason, in the order of the cases
+-- Reads W H ls n es c  the first n of the lines ls give the entries es, each for a later day than the one before;
+--                      c is the day of the last, 0 where there is none
+-- Entries W H ls es    all of the lines are read, and give the entries es
+-- Stops W H ls n f     the line at place n is not passed over and gives no next entry, for the reason f;
+--                      the lines before it are read
+-- NotRead W H ls e     what an error says of the lines: which one stops; nothing where memory failed
+-- texts xs             what the references xs point to
 use mathlib.Core.Path.{_≡_}
 use mathlib.Core.List.{List, [], _∷_, _++_, map}
 use mathlib.Core.Logic.{_⊎_}
@@ -27,8 +29,8 @@ use Rattle.account.specs.Texts.{WritesDay}
 abbrev pub texts : List (RefT (List ℕ)) → List (List ℕ)
 texts xs = map (λ x. x .now) xs
 
-abbrev pub Passed : List ℕ → Type 0
-Passed l = (length l ≡ 0) ⊎ (getD l 0 0 ≡ 35)
+abbrev pub Passed : List ℕ → ℕ → List ℕ → Type 0
+Passed H n l = (length l ≡ 0) ⊎ ((getD l 0 0 ≡ 35) ⊎ ((n ≡ 0) × (l ≡ H)))
 
 pub record Cut (l d a : List ℕ) : Type 0 where
   pub whole : l ≡ d ++ (32 ∷ a)
@@ -45,23 +47,28 @@ module _ {Q : Type 0} (W : List ℕ → Q → Type 0) where
   abbrev pub NoEntry : List ℕ → ℕ → Fault → Type 0
   NoEntry l c NoSpace = (i : ℕ) → i < length l → getD l i 0 ≡ 32 → ⊥
   NoEntry l c Day = (d a : List ℕ) × Cut l d a × ((n : ℕ) → WritesDay d n → ⊥)
-  NoEntry l c Amount = (d a : List ℕ) × Cut l d a × ((q : Q) → W a q → ⊥)
+  NoEntry l c Amount = (d a : List ℕ) × Cut l d a × ((n : ℕ) × WritesDay d n) × ((q : Q) → W a q → ⊥)
   NoEntry l c NotLater = (e : Entry Q) × Gives l e × (e .day ≤ c)
 
-  abbrev pub Reads : List (List ℕ) → ℕ → List (Entry Q) → ℕ → Type 0
-  Reads ls zero es c = (es ≡ []) × (c ≡ 0)
-  Reads ls (suc n) es c =
-      (Passed (getD ls n []) × Reads ls n es c)
-      ⊎ ((before : List (Entry Q)) × (b : ℕ) × (e : Entry Q) × Reads ls n before b × Gives (getD ls n []) e × (b < e .day)
-      × (es ≡ before ++ (e ∷ [])) × (c ≡ e .day))
+  module _ (H : List ℕ) where
+    abbrev pub Reads : List (List ℕ) → ℕ → List (Entry Q) → ℕ → Type 0
+    Reads ls zero es c = (es ≡ []) × (c ≡ 0)
+    Reads ls (suc n) es c =
+        (Passed H n (getD ls n []) × Reads ls n es c)
+        ⊎ ((before : List (Entry Q)) × (b : ℕ) × (e : Entry Q) × Reads ls n before b × Gives (getD ls n []) e × (b < e .day)
+        × (es ≡ before ++ (e ∷ [])) × (c ≡ e .day))
 
-  pub record Stops (ls : List (List ℕ)) (n : ℕ) (f : Fault) : Type 0 where
-    pub inside : n < length ls
-    pub entries : List (Entry Q)
-    pub latest : ℕ
-    pub before : Reads ls n entries latest
-    pub reason : NoEntry (getD ls n []) latest f
+    abbrev pub Entries : List (List ℕ) → List (Entry Q) → Type 0
+    Entries ls es = (c : ℕ) × Reads ls (length ls) es c
 
-  abbrev pub NotRead : List (List ℕ) → ReadError → Type 0
-  NotRead ls (Line n f) = Stops ls n f
-  NotRead ls Memory = Unit {0}
+    pub record Stops (ls : List (List ℕ)) (n : ℕ) (f : Fault) : Type 0 where
+      pub inside : n < length ls
+      pub counts : Passed H n (getD ls n []) → ⊥
+      pub entries : List (Entry Q)
+      pub latest : ℕ
+      pub before : Reads ls n entries latest
+      pub reason : NoEntry (getD ls n []) latest f
+
+    abbrev pub NotRead : List (List ℕ) → ReadError → Type 0
+    NotRead ls (Line n f) = Stops ls n f
+    NotRead ls Memory = Unit {0}

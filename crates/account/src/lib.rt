@@ -4,3 +4,6 @@ pub mod fault;
 pub mod line;
 pub mod lines;
 pub mod metered;
+pub mod month;
+pub mod reading;
+pub mod rows;

@@ -12,13 +12,13 @@ use crate::entry::Entry;
 use crate::fault::Fault;
 use crate::metered::Metered;
 
-/// Whether the line is passed over: it is empty or begins with `#`.
-pub fn is_passed_over(line: &str) -> bool
-    ensures { λ r. ⌜ Decides r (Passed (now (line .entry))) ⌝ }
+/// Whether the line at this place is passed over: it is empty, begins with `#`, or is the heading in the first place.
+pub fn is_passed_over<Q: Metered>(place: usize, line: &str) -> bool
+    ensures { λ r. ⌜ Decides r (Passed heading place (now (line .entry))) ⌝ }
 {
     match line.as_bytes() {
         [] | [b'#', ..] => true,
-        _ => false,
+        _ => place == 0 && line == Q::heading(),
     }
 }
 

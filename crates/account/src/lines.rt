@@ -1,10 +1,7 @@
 //! Reading all lines of an account.
-ghost use Prim.Native.Nat.{ℕ};
-ghost use mathlib.Core.List.{map};
-ghost use lib.ListN.{length};
 ghost use Rattle.std.specs.Of.Vec.{vec-items};
 ghost use Rattle.std.specs.Results.{Cases};
-ghost use Rattle.account.specs.Lines.{Reads, NotRead, texts};
+ghost use Rattle.account.specs.Lines.{Entries, NotRead, texts};
 use crate::entry::Entry;
 use crate::fault::ReadError;
 use crate::fault::ReadErrorFromRefused;
@@ -18,12 +15,12 @@ use std::alloc::Global;
 /// Lines that are empty or begin with `#` are passed over. The first other line that gives no entry is named, and
 /// nothing is read after it.
 pub fn read_entries<Q: Metered>(heap: Global, lines: &[&str]) -> Result<Vec<Entry<Q>>, ReadError>
-    ensures { λ r. ⌜ Cases r (λ v. (c : ℕ) × Reads writes (texts (now (lines .entry))) (length (now (lines .entry))) (vec-items v) c) (λ e. NotRead writes (texts (now (lines .entry))) e) ⌝ }
+    ensures { λ r. ⌜ Cases r (λ v. Entries writes heading (texts (now (lines .entry))) (vec-items v)) (λ e. NotRead writes heading (texts (now (lines .entry))) e) ⌝ }
 {
     let mut entries = Vec::new(heap);
     let mut latest = 0;
     for (place, line) in lines.iter().enumerate() {
-        if !is_passed_over(line) {
+        if !is_passed_over::<Q>(place, line) {
             match read_entry(line, latest) {
                 Ok(entry) => {
                     entries.push(entry)?;

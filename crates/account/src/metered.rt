@@ -1,6 +1,8 @@
 //! The quantities that an account can be kept in.
 ghost use Prim.Native.Nat.{ℕ};
+ghost use mathlib.Core.Path.{_≡_};
 ghost use mathlib.Core.List.{List};
+ghost use Rattle.account.specs.Headings.{mass-heading, totaliser-heading};
 ghost use Rattle.std.specs.Options.{Cases};
 ghost use Rattle.account.specs.Texts.{WritesAdvance, WritesMass};
 use quantity::Quantity;
@@ -13,8 +15,15 @@ use quantity::totaliser::TotaliserQuantity;
 
 /// A quantity whose amounts an account's text writes.
 pub trait Metered: Quantity {
+    /// the line that heads an account which is kept in the quantity
+    ghost heading: { List ℕ };
+
     /// the bytes of a text write the amount
     ghost writes: { List ℕ → Self → Type 0 };
+
+    /// The line that heads an account which is kept in the quantity.
+    fn heading() -> &'static str
+        ensures { λ r. ⌜ now r ≡ heading ⌝ };
 
     /// The amount that the text writes; none where it writes none.
     fn read(text: &str) -> Option<Self>
@@ -22,7 +31,13 @@ pub trait Metered: Quantity {
 }
 
 pub impl Metered for Totaliser as TotaliserMetered {
+    ghost heading = { totaliser-heading };
+
     ghost writes = { WritesAdvance };
+
+    fn heading() -> &'static str {
+        "quantity totaliser"
+    }
 
     fn read(text: &str) -> Option<Totaliser> {
         match text.parse::<u32>() {
@@ -33,7 +48,13 @@ pub impl Metered for Totaliser as TotaliserMetered {
 }
 
 pub impl Metered for Mass as MassMetered {
+    ghost heading = { mass-heading };
+
     ghost writes = { WritesMass };
+
+    fn heading() -> &'static str {
+        "quantity mass"
+    }
 
     fn read(text: &str) -> Option<Mass> {
         match text.parse::<i64>() {

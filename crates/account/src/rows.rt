@@ -1,0 +1,60 @@
+//! The account itself: a row for each entry, with the running total.
+ghost use Prim.Native.Nat.{_+_, _≤_};
+ghost use Rattle.std.specs.Of.Vec.{vec-items};
+ghost use Rattle.std.specs.Orderings.{Decides};
+ghost use Rattle.std.specs.Vec.{made};
+ghost use Rattle.quantity.specs.Totalisers.{taken};
+ghost use Rattle.account.specs.Rows.{Keeps};
+use crate::entry::Entry;
+use quantity::Quantity;
+use quantity::totaliser::Totaliser;
+use std::alloc::AllocError;
+use std::alloc::Global;
+
+/// One day of the account.
+#[derive(Clone, Copy)]
+pub struct Row<Q> {
+    pub day: u8,
+    pub amount: Q,
+    /// The month's total before this day.
+    pub before: Q,
+    /// The month's total with this day.
+    pub total: Q,
+}
+
+impl Row<Totaliser> {
+    /// Whether the counter passed 999,999 on this day. It stands at 0 as the month begins.
+    pub fn rolled_over(&self) -> bool
+        ensures { λ r. ⌜ Decides r (1000000 ≤ taken (now (self .entry) .before .0) + taken (now (self .entry) .amount .0)) ⌝ }
+    {
+        self.before.rolls_over(self.amount)
+    }
+}
+
+/// A month's account: its rows by day, and the total of the month.
+#[derive(Drop)]
+pub struct Account<Q> {
+    pub rows: Vec<Row<Q>>,
+    pub total: Q,
+}
+
+impl<Q: Quantity> Account<Q> {
+    /// The account of the entries, in their order.
+    pub fn new(heap: Global, entries: &[Entry<Q>]) -> Result<Account<Q>, AllocError>
+        ensures { λ r. ⌜ made r (λ a. Keeps model (now (entries .entry)) (vec-items (a .rows)) (a .total)) ⌝ }
+    {
+        let mut rows = Vec::with_capacity(heap, entries.len())?;
+        let mut total = Q::zero();
+        for entry in entries {
+            let before = total;
+            total = before.plus(entry.amount);
+            rows.push(Row {
+                day: entry.day,
+                amount: entry.amount,
+                before,
+                total,
+            })?;
+        }
+        Ok(Account { rows, total })
+    }
+}
