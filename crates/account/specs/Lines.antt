@@ -11,12 +11,12 @@
 -- Entries W H ls es    all of the lines are read, and give the entries es
 -- Stops W H ls n f     the line at place n is not passed over and gives no next entry, for the reason f;
 --                      the lines before it are read
--- NotRead W H ls e     what an error says of the lines: which one stops; nothing where memory failed
+-- NotRead W H ls e     what an error says of the lines: the number of the one that stops, counted from 1; nothing where memory failed
 -- texts xs             what the references xs point to
 use mathlib.Core.Path.{_≡_}
 use mathlib.Core.List.{List, [], _∷_, _++_, map}
 use mathlib.Core.Logic.{_⊎_}
-use Prim.Native.Nat.{ℕ, zero, suc, _<_, _≤_}
+use Prim.Native.Nat.{ℕ, zero, suc, _+_, _<_, _≤_}
 use denote.Ref.{RefT}
 use lib.ListN.{length, getD}
 use Rattle.account.specs.declared.entry.Entry.{Entry}
@@ -70,5 +70,5 @@ module _ {Q : Type 0} (W : List ℕ → Q → Type 0) where
       pub reason : NoEntry (getD ls n []) latest f
 
     abbrev pub NotRead : List (List ℕ) → ReadError → Type 0
-    NotRead ls (Line n f) = Stops ls n f
+    NotRead ls (Line n f) = (p : ℕ) × (n ≡ p + 1) × Stops ls p f
     NotRead ls Memory = Unit {0}

@@ -1,7 +1,6 @@
 //! Why lines are not read as an account.
 ghost use mathlib.Core.Path.{_≡_};
 ghost use Rattle.account.specs.declared.fault.ReadError.the-variants.{Memory};
-use std::alloc::AllocError;
 use std::alloc::Refused;
 use std::fmt;
 
@@ -20,49 +19,40 @@ pub enum Fault {
 
 pub impl fmt::Display for Fault as FaultDisplay {
     fn fmt<W: fmt::Write>(&self, f: &mut fmt::Formatter<W>) -> fmt::Result {
-        let text = match *self {
-            Fault::NoSpace => "there is no space between a day and an amount",
-            Fault::Day => "the day is not a number from 1 to 31",
-            Fault::Amount => "the amount is not a number within the bounds",
-            Fault::NotLater => "the day is not later than the one before",
-        };
-        write!(f, "{text}")
+        f.write_str(
+            match *self {
+                Fault::NoSpace => "there is no space between a day and an amount",
+                Fault::Day => "the day is not a number from 1 to 31",
+                Fault::Amount =>
+                    "the amount is not a number within the bounds (an advance is from 0 to 999999, a mass within 1000000000000 grams either way)",
+                Fault::NotLater => "the day is not later than the one before",
+            },
+        )
     }
 }
 
 /// Why lines are not read.
 #[derive(Clone, Copy, PartialEq, Eq, Debug)]
 pub enum ReadError {
-    /// The line at this place, counted from 0, gives no next entry.
-    Line { place: usize, fault: Fault },
+    /// The line with this number, counted from 1, gives no next entry.
+    Line { number: usize, fault: Fault },
     /// There was no memory for the entries.
     Memory,
-}
-
-pub impl From<AllocError> for ReadError as ReadErrorFromAlloc {
-    ghost converts = { λ _ r. r ≡ Memory };
-
-    fn from(_error: AllocError) -> ReadError {
-        ReadError::Memory
-    }
 }
 
 pub impl<T: Drop> From<Refused<T>> for ReadError as ReadErrorFromRefused {
     ghost converts = { λ _ r. r ≡ Memory };
 
     fn from(_refused: Refused<T>) -> ReadError {
-        ReadError::Memory
+        Self::Memory
     }
 }
 
 pub impl fmt::Display for ReadError as ReadErrorDisplay {
     fn fmt<W: fmt::Write>(&self, f: &mut fmt::Formatter<W>) -> fmt::Result {
         match *self {
-            ReadError::Line { place, fault } => {
-                let line = place.saturating_add(1);
-                write!(f, "line {line}: {fault}")
-            }
-            ReadError::Memory => write!(f, "there is not enough memory"),
+            ReadError::Line { number, fault } => write!(f, "line {number}: {fault}"),
+            ReadError::Memory => f.write_str("there is not enough memory"),
         }
     }
 }

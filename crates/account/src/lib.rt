@@ -7,3 +7,5 @@ pub mod metered;
 pub mod month;
 pub mod reading;
 pub mod rows;
+#[cfg(test)]
+mod tests;

@@ -26,7 +26,10 @@ pub fn read_entries<Q: Metered>(heap: Global, lines: &[&str]) -> Result<Vec<Entr
                     entries.push(entry)?;
                     latest = entry.day;
                 }
-                Err(fault) => return Err(ReadError::Line { place, fault }),
+                Err(fault) => return Err(ReadError::Line {
+                    number: place + 1,
+                    fault,
+                }),
             }
         }
     }

@@ -1,4 +1,4 @@
-use mathlib.Core.Path.{ap, _∙_}
+use mathlib.Core.Path.{refl, ap, _∙_}
 use native.Mathlib.Omega.{arith}
 use Rattle.std.specs.Of.Vec.{vec-items}
 use Rattle.std.proofs.shelf.Tests.{both-ways}
@@ -8,8 +8,7 @@ use Rattle.account.proofs.lines.read_entries.Needs.{then-not-is-passed-over·i
 
 pub returns-in-Err : need.returns-in-Err
 returns-in-Err g c =
-    stops-here (g .Q·Metered .writes) (g .Q·Metered .heading) (c .args .lines .now) (c .loop-place .place) _ (c .loop-place-test .taken) _ _
-    (c .loop-place .inv) (c .in-Err .fault) (λ passed. both-ways _ (c .if-not-is-passed-over .taken) (c .is-passed-over .ensures .1 passed)) (c .in-Err .ensures tt)
+    (c .loop-place .place, refl, stops-here (g .Q·Metered .writes) (g .Q·Metered .heading) (c .args .lines .now) (c .loop-place .place) _ (c .loop-place-test .taken) _ _ (c .loop-place .inv) (c .in-Err .fault) (λ passed. both-ways _ (c .if-not-is-passed-over .taken) (c .is-passed-over .ensures .1 passed)) (c .in-Err .ensures tt))
 
 pub loop-place-again : need.loop-place-again
 loop-place-again g c =
