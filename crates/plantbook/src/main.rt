@@ -66,26 +66,27 @@ fn print_month(rt: &LibcRuntime, month: Month) -> Result<(), AnyError> {
     Ok(())
 }
 
-// Prints the account that the text gives, or says on standard error which line is bad. `name` says where the text is from.
+// Prints the account that the text gives under its name, or says on standard error which of its lines is bad.
 fn run(rt: &LibcRuntime, name: &str, text: &str) -> Result<(), AnyError> {
     let lines: Vec<&str> = text.lines().collect(rt.alloc())?;
     match read_month(rt.alloc(), lines.as_slice()) {
-        Ok(month) => print_month(rt, month),
+        Ok(month) => {
+            println!(rt, "{name}")?;
+            print_month(rt, month)
+        }
         Err(error) => {
             eprintln!(rt, "plantbook: {name}: {error}")?;
-            Err("the text is no account".into())
+            Err("a line is bad".into())
         }
     }
 }
 
-fn run_file(rt: &LibcRuntime, path: &str) -> Result<(), AnyError> {
-    match fs::read_to_string(rt, path) {
-        Ok(text) => {
-            println!(rt, "{path}")?;
-            run(rt, path, text.as_str())
-        }
+// Runs the text that was read, or says on standard error why there is none.
+fn run_input(rt: &LibcRuntime, name: &str, text: io::Result<String>) -> Result<(), AnyError> {
+    match text {
+        Ok(text) => run(rt, name, text.as_str()),
         Err(error) => {
-            eprintln!(rt, "plantbook: {path}: {error}")?;
+            eprintln!(rt, "plantbook: {name}: {error}")?;
             Err(error.into())
         }
     }
@@ -94,11 +95,14 @@ fn run_file(rt: &LibcRuntime, path: &str) -> Result<(), AnyError> {
 fn main(rt: LibcRuntime) -> Result<(), AnyError> {
     let words: Vec<String> = env::args(&rt)?.collect(rt.alloc())?;
     if words.len() <= 1 {
-        let text = io::read_to_string(rt.alloc(), rt.stdin())?;
-        return run(&rt, "standard input", text.as_str());
+        return run_input(
+            &rt,
+            "standard input",
+            io::read_to_string(rt.alloc(), rt.stdin()),
+        );
     }
     for path in words.iter().skip(1) {
-        run_file(&rt, path.as_str())?;
+        run_input(&rt, path.as_str(), fs::read_to_string(&rt, path.as_str()))?;
     }
     Ok(())
 }
