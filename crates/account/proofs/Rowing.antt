@@ -61,9 +61,9 @@ module _ {Q : Type 0} (m : Model Q) (es : List (Entry Q)) where
   pub sofar-all : (i : ℕ) (rs : List (Row Q)) (t : Q) → Sofar m es i rs t → i ≡ length es → Keeps m es rs t
   sofar-all i rs t h is =
       let P : ℕ → Type 0 = λ n. Sofar m es n rs t in
-      let all : Sofar m es (length es) rs t = subst P is h in
+      let whole : Sofar m es (length es) rs t = subst P is h in
       record {
-        as-many = all .as-many;
-        each = all .each;
-        sum = all .sum ∙ sym (sum-map (m .group) (λ e. m .means (e .amount)) es);
+        as-many = whole .as-many;
+        each = whole .each;
+        all = whole .sum ∙ sym (sum-map (m .group) (λ e. m .means (e .amount)) es);
       }

@@ -1,16 +1,14 @@
 -- A line cut at its first space. Assumes nothing.
 use mathlib.Core.List.{List}
-use mathlib.Core.Path.{_≡_}
-use Prim.Native.Nat.{ℕ, _<_}
+use Prim.Native.Nat.{ℕ}
 use denote.Ref.{RefT}
 use lib.Dec.{lit<}
-use lib.ListN.{length, getD}
 use Rattle.std.specs.Options.{Cases}
 use Rattle.std.specs.declared.option.Option.{Option}
 use Rattle.std.specs.declared.option.Option.the-variants.{Some, None}
 use Rattle.std.proofs.shelf.Patterns.{SplitAt, split-parts}
-use Rattle.account.specs.Lines.{Cut}
+use Rattle.account.specs.Lines.{Spaceless, Cut}
 
-pub cut-from-split : (l : List ℕ) (r : Option (RefT (List ℕ) × RefT (List ℕ))) → SplitAt 32 l r → Cases r ((i : ℕ) → i < length l → getD l i 0 ≡ 32 → ⊥) (λ x. Cut l (x .0 .now) (x .1 .now))
+pub cut-from-split : (l : List ℕ) (r : Option (RefT (List ℕ) × RefT (List ℕ))) → SplitAt 32 l r → Cases r (Spaceless l) (λ x. Cut l (x .0 .now) (x .1 .now))
 cut-from-split l None h = split-parts 32 l None h (lit< tt)
 cut-from-split l (Some x) h = let parts = split-parts 32 l (Some x) h (lit< tt) in record { whole = parts .0; first = parts .1 }

@@ -25,13 +25,14 @@ module _ {Q : Type 0} (W : List ℕ → Q → Type 0) (H : List ℕ) (xs : List 
       let before : Reads W H (texts xs) n fs b = subst P (sym is) (subst (Reads W H (texts xs) n es) (sym is-day) before) in
       next fs b (inl (of-text (Passed H n) h, before))
 
-  pub reads-entry : (e : Entry Q) → Gives W (getD xs n d .now) e × (c < e .day) → (fs : List (Entry Q)) (b : ℕ) → fs ≡ es ++ (e ∷ []) → b ≡ e .day → Reads W H (texts xs) (n + 1) fs b
-  reads-entry e h fs b is is-day = next fs b (inr (es, c, e, before, of-text (λ l. Gives W l e) (h .0), h .1, is, is-day))
+  pub reads-entry : (e : Entry Q) → (Passed H n (getD xs n d .now) → ⊥) → Gives W (getD xs n d .now) e × (c < e .day) → (fs : List (Entry Q)) (b : ℕ) → fs ≡ es ++ (e ∷ []) → b ≡ e .day → Reads W H (texts xs) (n + 1) fs b
+  reads-entry e no-pass h fs b is is-day =
+      next fs b (inr (of-text (λ l. Passed H n l → ⊥) no-pass, (es, c, e, before, of-text (λ l. Gives W l e) (h .0), h .1, is, is-day)))
 
   pub stops-here : (f : Fault) → (Passed H n (getD xs n d .now) → ⊥) → NoEntry W (getD xs n d .now) c f → Stops W H (texts xs) n f
   stops-here f no-pass h = record {
     inside = simp length-map inside;
-    counts = of-text (λ l. Passed H n l → ⊥) no-pass;
+    not-passed = of-text (λ l. Passed H n l → ⊥) no-pass;
     entries = es;
     latest = c;
     before = before;

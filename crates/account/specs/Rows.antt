@@ -29,4 +29,4 @@ module _ {Q : Type 0} (m : Model Q) where
   pub record Keeps (es : List (Entry Q)) (rs : List (Row Q)) (t : Q) : Type 0 where
     pub as-many : length rs ≡ length es
     pub each : (k : ℕ) (e : Entry Q) (r : Row Q) → k < length es → Row-of es k (getD es k e) (getD rs k r)
-    pub sum : m .means t ≡ sum-all (m .group) (amounts es)
+    pub all : m .means t ≡ sum-all (m .group) (amounts es)

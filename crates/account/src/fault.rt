@@ -1,6 +1,8 @@
 //! Why lines are not read as an account.
 ghost use mathlib.Core.Path.{_≡_};
+ghost use Rattle.std.specs.declared.option.Option.the-variants.{Some};
 ghost use Rattle.account.specs.declared.fault.ReadError.the-variants.{Memory};
+ghost use Rattle.account.specs.Messages.{reason-of, message};
 use std::alloc::Refused;
 use std::fmt;
 
@@ -10,24 +12,25 @@ pub enum Fault {
     /// The line has no space between a day and an amount.
     NoSpace,
     /// What stands before the first space is not a day from 1 to 31.
-    Day,
+    BadDay,
     /// What follows the first space is not an amount within the bounds.
-    Amount,
+    BadAmount,
     /// The day is not later than that of the entry before.
     NotLater,
 }
 
-pub impl fmt::Display for Fault as FaultDisplay {
-    fn fmt<W: fmt::Write>(&self, f: &mut fmt::Formatter<W>) -> fmt::Result {
-        f.write_str(
-            match *self {
-                Fault::NoSpace => "there is no space between a day and an amount",
-                Fault::Day => "the day is not a number from 1 to 31",
-                Fault::Amount =>
-                    "the amount is not a number within the bounds (an advance is from 0 to 999999, a mass within 1000000000000 grams either way)",
-                Fault::NotLater => "the day is not later than the one before",
-            },
-        )
+impl Fault {
+    /// The fault in words.
+    pub fn reason(self) -> &'static str
+        ensures { λ r. ⌜ now r ≡ reason-of self ⌝ }
+    {
+        match self {
+            Fault::NoSpace => "there is no space between a day and an amount",
+            Fault::BadDay => "the day is not a number from 1 to 31",
+            Fault::BadAmount =>
+                "the amount is not a number within the bounds: 0 to 999999 for an advance, 1000000000000 grams either way for a mass",
+            Fault::NotLater => "the day is not later than the one before",
+        }
     }
 }
 
@@ -49,10 +52,18 @@ pub impl<T: Drop> From<Refused<T>> for ReadError as ReadErrorFromRefused {
 }
 
 pub impl fmt::Display for ReadError as ReadErrorDisplay {
+    ghost shown = { λ e. Some (message e) };
+
     fn fmt<W: fmt::Write>(&self, f: &mut fmt::Formatter<W>) -> fmt::Result {
         match *self {
-            ReadError::Line { number, fault } => write!(f, "line {number}: {fault}"),
-            ReadError::Memory => f.write_str("there is not enough memory"),
+            ReadError::Line { number, fault } => {
+                let reason = fault.reason();
+                write!(f, "line {number}: {reason}")
+            }
+            ReadError::Memory => {
+                let reason = "there is not enough memory";
+                write!(f, "{reason}")
+            }
         }
     }
 }

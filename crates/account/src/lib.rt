@@ -1,11 +1,9 @@
 //! A month's account of one meter: its daily amounts, read from lines of text, and the running total.
 pub mod entry;
 pub mod fault;
-pub mod line;
 pub mod lines;
 pub mod metered;
 pub mod month;
-pub mod reading;
 pub mod rows;
 #[cfg(test)]
 mod tests;

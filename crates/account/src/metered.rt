@@ -3,13 +3,11 @@ ghost use Prim.Native.Nat.{ℕ};
 ghost use mathlib.Core.Path.{_≡_};
 ghost use mathlib.Core.List.{List};
 ghost use Rattle.account.specs.Headings.{mass-heading, totaliser-heading};
-ghost use Rattle.std.specs.Options.{Cases};
-ghost use Rattle.account.specs.Texts.{WritesAdvance, WritesMass};
+ghost use Rattle.account.specs.Texts.{WritesAdvance, WritesMass, Finds};
 use quantity::Quantity;
 use quantity::mass::Mass;
 use quantity::mass::MassQuantity;
-use quantity::sheet::MASS_BOUND;
-use quantity::totaliser::TURN;
+use quantity::totaliser::MODULUS;
 use quantity::totaliser::Totaliser;
 use quantity::totaliser::TotaliserQuantity;
 
@@ -27,7 +25,7 @@ pub trait Metered: Quantity {
 
     /// The amount that the text writes; none where it writes none.
     fn read(text: &str) -> Option<Self>
-        ensures { λ r. ⌜ Cases r ((a : Self) → writes (now (text .entry)) a → ⊥) (λ a. writes (now (text .entry)) a) ⌝ };
+        ensures { λ r. ⌜ Finds (writes (now (text .entry))) r ⌝ };
 }
 
 pub impl Metered for Totaliser as TotaliserMetered {
@@ -41,7 +39,7 @@ pub impl Metered for Totaliser as TotaliserMetered {
 
     fn read(text: &str) -> Option<Totaliser> {
         match text.parse::<u32>() {
-            Ok(advance) if advance < TURN => Some(Totaliser(advance)),
+            Ok(advance) if advance < MODULUS => Some(Totaliser(advance)),
             _ => None,
         }
     }
@@ -58,7 +56,7 @@ pub impl Metered for Mass as MassMetered {
 
     fn read(text: &str) -> Option<Mass> {
         match text.parse::<i64>() {
-            Ok(grams) if -MASS_BOUND <= grams && grams <= MASS_BOUND => Some(Mass(grams)),
+            Ok(grams) if Mass(grams).is_bounded() => Some(Mass(grams)),
             _ => None,
         }
     }

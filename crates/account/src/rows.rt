@@ -1,12 +1,21 @@
 //! The account itself: a row for each entry, with the running total.
-ghost use Prim.Native.Nat.{_+_, _≤_};
+ghost use Prim.Native.Nat.{_≤_};
+ghost use mathlib.Core.List.{map};
+ghost use mathlib.Core.Path.{_≡_};
+ghost use lib.ListN.{length};
 ghost use Rattle.std.specs.Of.Vec.{vec-items};
 ghost use Rattle.std.specs.Orderings.{Decides};
 ghost use Rattle.std.specs.Vec.{made};
-ghost use Rattle.quantity.specs.Totalisers.{taken};
+ghost use Rattle.std.specs.shelf.Lists.{All};
+ghost use Rattle.quantity.specs.Group.{whole};
+ghost use Rattle.quantity.specs.Masses.{mass-model, Bounded};
+ghost use Rattle.quantity.specs.Sums.{sum-all};
+ghost use Rattle.quantity.specs.Totalisers.{Rolls-over};
 ghost use Rattle.account.specs.Rows.{Keeps};
 use crate::entry::Entry;
 use quantity::Quantity;
+use quantity::mass::Mass;
+use quantity::mass::MassQuantity;
 use quantity::totaliser::Totaliser;
 use std::alloc::AllocError;
 use std::alloc::Global;
@@ -25,7 +34,7 @@ pub struct Row<Q> {
 impl Row<Totaliser> {
     /// Whether the counter passed 999,999 on this day. It stands at 0 as the month begins.
     pub fn rolled_over(&self) -> bool
-        ensures { λ r. ⌜ Decides r (1000000 ≤ taken (now (self .entry) .before .0) + taken (now (self .entry) .amount .0)) ⌝ }
+        ensures { λ r. ⌜ Decides r (Rolls-over (now (self .entry) .before) (now (self .entry) .amount)) ⌝ }
     {
         self.before.rolls_over(self.amount)
     }
@@ -56,5 +65,17 @@ impl<Q: Quantity> Account<Q> {
             })?;
         }
         Ok(Account { rows, total })
+    }
+}
+
+impl Account<Mass> {
+    /// The account of masses. Of at most 1,024 masses within 10^12 grams either way its total is their sum over the whole
+    /// numbers: nothing has wrapped.
+    pub fn of_masses(heap: Global, entries: &[Entry<Mass>]) -> Result<Account<Mass>, AllocError>
+        ensures kept { λ r. ⌜ made r (λ a. Keeps mass-model (now (entries .entry)) (vec-items (a .rows)) (a .total)) ⌝ }
+        ensures exact { λ r. ⌜ made r (λ a. length (now (entries .entry)) ≤ 1024 → All (λ e. Bounded (e .amount .0)) (now (entries .entry)) → a .total .0 ≡ sum-all whole (map (λ e. e .amount .0) (now (entries .entry)))) ⌝ }
+    {
+        let account = Account::new(heap, entries)?;
+        Ok(account)
     }
 }

@@ -7,7 +7,7 @@ use crate::fault::ReadErrorDebug;
 use crate::fault::ReadErrorDisplay;
 use crate::fault::ReadErrorPartialEq;
 use crate::month::Month;
-use crate::reading::read_month;
+use crate::month::read_month;
 use crate::rows::Account;
 use quantity::mass::MassQuantity;
 use quantity::totaliser::TotaliserQuantity;
@@ -46,7 +46,7 @@ fn masses_have_a_heading(rt: LibcRuntime) -> Result<(), Fail> {
     };
     check(entries.len() == 2)?;
     check_eq(entries[0].amount.0, -1_000_000_000_000)?;
-    check_eq(Account::new(heap, entries.as_slice())?.total.0, 0)
+    check_eq(Account::of_masses(heap, entries.as_slice())?.total.0, 0)
 }
 
 #[test]
@@ -54,14 +54,14 @@ fn the_first_bad_line_is_named(rt: LibcRuntime) -> Result<(), Fail> {
     let heap = rt.alloc();
     for (text, number, fault) in [
         ("1 5\n2", 2, Fault::NoSpace),
-        ("# x\n32 5", 2, Fault::Day),
-        ("0 5\nx", 1, Fault::Day),
-        ("1 1000000", 1, Fault::Amount),
-        ("1  5", 1, Fault::Amount),
+        ("# x\n32 5", 2, Fault::BadDay),
+        ("0 5\nx", 1, Fault::BadDay),
+        ("1 1000000", 1, Fault::BadAmount),
+        ("1  5", 1, Fault::BadAmount),
         ("7 5\n\n7 6", 3, Fault::NotLater),
-        ("1 5\nquantity totaliser", 2, Fault::Day),
-        ("quantity masses\n1 5", 1, Fault::Day),
-        ("quantity mass\n1 1000000000001", 2, Fault::Amount),
+        ("1 5\nquantity totaliser", 2, Fault::BadDay),
+        ("quantity masses\n1 5", 1, Fault::BadDay),
+        ("quantity mass\n1 1000000000001", 2, Fault::BadAmount),
     ] {
         let lines: Vec<&str> = text.lines().collect(heap)?;
         check_eq(

@@ -2,7 +2,7 @@
 use account::entry::Entry;
 use account::fault::ReadErrorDisplay;
 use account::month::Month;
-use account::reading::read_month;
+use account::month::read_month;
 use account::rows::Account;
 use account::rows::Row;
 use quantity::Quantity;
@@ -59,7 +59,7 @@ fn print_month(rt: &LibcRuntime, month: Month) -> Result<(), AnyError> {
             print_roll_overs(rt, account.rows.as_slice())?;
         }
         Month::Masses(entries) => {
-            let account = Account::new(rt.alloc(), entries.as_slice())?;
+            let account = Account::of_masses(rt.alloc(), entries.as_slice())?;
             print_account(rt, &account)?;
         }
     }
@@ -76,7 +76,7 @@ fn run(rt: &LibcRuntime, name: &str, text: &str) -> Result<(), AnyError> {
         }
         Err(error) => {
             eprintln!(rt, "plantbook: {name}: {error}")?;
-            Err("a line is bad".into())
+            Err("the text is not read".into())
         }
     }
 }

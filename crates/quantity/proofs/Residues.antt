@@ -14,7 +14,7 @@ use Rattle.std.proofs.shelf.Signed.{ints, ofZ-toZ, toZ-ofZ, remEuclid-is}
 use Rattle.std.proofs.shelf.Tests.{eqb-true, eq-eqb, cond-true, cond-both, lt-ltb, ltb-true}
 use Rattle.quantity.specs.Modulo.{Residue, residue-path, residue, modulo}
 use Rattle.quantity.specs.Masses.{counts, grams}
-use Rattle.quantity.specs.Totalisers.{taken, advances, advance}
+use Rattle.quantity.specs.Totalisers.{modulus, taken, advances, advance-of}
 
 module _ (m : ℕ) (some : 0 < m) where
   -- z plus k times m is the natural n
@@ -71,31 +71,41 @@ module _ (a : ℤ) (fits : SFits w64 a) where
         sym (toZ-ofZ w64 a fits) ∙ ap (toZ w64) (sym (grams-bits a fits) ∙ ap (λ x. x .0) e ∙ grams-bits b fits-b)
         ∙ toZ-ofZ w64 b fits-b
 
--- six digits are taken as they stand
-pub taken-small : (n : ℕ) → n < 1000000 → taken n ≡ n
-taken-small n h = cond-true (ltb n 1000000) n 0 (lt-ltb n 1000000 h)
+-- a 64-bit number other than 0 means no count of zero
+pub grams-some : (a : ℤ) → SFits w64 a → (a ≡ pos 0 → ⊥) → grams a ≡ counts .zero → ⊥
+grams-some a fits some e = some (grams-same a fits (pos 0) (omega (arith, ints)) e)
 
-pub taken-below : (n : ℕ) → taken n < 1000000
-taken-below n = cond-both (ltb n 1000000) n 0 (λ d. d < 1000000) (ltb-true n 1000000) (λ _. lit< tt)
+-- six digits are taken as they stand
+pub taken-small : (n : ℕ) → n < modulus → taken n ≡ n
+taken-small n h = cond-true (ltb n modulus) n 0 (lt-ltb n modulus h)
+
+pub taken-below : (n : ℕ) → taken n < modulus
+taken-below n = cond-both (ltb n modulus) n 0 (λ d. d < modulus) (ltb-true n modulus) (λ _. lit< tt)
 
 -- the advance that a number means, as a number
-pub advance-taken : (n : ℕ) → advance n .0 ≡ taken n
+pub advance-taken : (n : ℕ) → advance-of n .0 ≡ taken n
 advance-taken n = mod-eq-of-lt (taken-below n)
 
 -- what the remainder by 1,000,000 means
-pub advance-rest : (n : ℕ) → advance (n % 1000000) .0 ≡ n % 1000000
-advance-rest n = advance-taken (n % 1000000) ∙ taken-small (n % 1000000) (mod-lt n (lit< tt))
+pub advance-rest : (n : ℕ) → advance-of (n % modulus) .0 ≡ n % modulus
+advance-rest n = advance-taken (n % modulus) ∙ taken-small (n % modulus) (mod-lt n (lit< tt))
 
-pub advance-plus : (a b r : ℕ) → r ≡ (taken a + taken b) % 1000000 → advance r ≡ advances .plus (advance a) (advance b)
+pub advance-plus : (a b r : ℕ) → r ≡ (taken a + taken b) % modulus → advance-of r ≡ advances .plus (advance-of a) (advance-of b)
 advance-plus a b r e =
     residue-path
-    (ap (λ n. advance n .0) e ∙ advance-rest (taken a + taken b)
-    ∙ ap₂ (λ x y. (x + y) % 1000000) (sym (advance-taken a)) (sym (advance-taken b)))
+    (ap (λ n. advance-of n .0) e ∙ advance-rest (taken a + taken b)
+    ∙ ap₂ (λ x y. (x + y) % modulus) (sym (advance-taken a)) (sym (advance-taken b)))
 
-pub advance-minus : (a r : ℕ) → r ≡ (1000000 - taken a) % 1000000 → advance r ≡ advances .minus (advance a)
+pub advance-minus : (a r : ℕ) → r ≡ (modulus - taken a) % modulus → advance-of r ≡ advances .minus (advance-of a)
 advance-minus a r e =
     residue-path
-    (ap (λ n. advance n .0) e ∙ advance-rest (1000000 - taken a) ∙ ap (λ x. (1000000 - x) % 1000000) (sym (advance-taken a)))
+    (ap (λ n. advance-of n .0) e ∙ advance-rest (modulus - taken a) ∙ ap (λ x. (modulus - x) % modulus) (sym (advance-taken a)))
 
-pub advance-test : (a b x y : ℕ) → x ≡ taken a → y ≡ taken b → Decides (eqb x y) (advance a ≡ advance b)
-advance-test a b x y p q = residue-test (advance a) (advance b) x y (p ∙ sym (advance-taken a)) (q ∙ sym (advance-taken b))
+pub advance-test : (a b x y : ℕ) → x ≡ taken a → y ≡ taken b → Decides (eqb x y) (advance-of a ≡ advance-of b)
+advance-test a b x y p q = residue-test (advance-of a) (advance-of b) x y (p ∙ sym (advance-taken a)) (q ∙ sym (advance-taken b))
+
+-- a number from 1 to 999,999 means no advance of zero
+pub advance-some : (n : ℕ) → 0 < n → n < modulus → advance-of n ≡ advances .zero → ⊥
+advance-some n some below e =
+    let is : n ≡ 0 = sym (taken-small n below) ∙ sym (advance-taken n) ∙ ap (λ x. x .0) e in
+    omega arith

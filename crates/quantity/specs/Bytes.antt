@@ -1,8 +1,8 @@
 -- Numbers as bytes, the lowest byte first. Assumes nothing.
 --
--- Eight bs    bs are eight bytes
--- little bs   the number that bs write, without a sign
--- signed bs   the number that eight bytes write with a sign, in two's complement
+-- Eight bs          bs are eight bytes
+-- little bs         the number that bs write, without a sign
+-- signed-little bs  the number that eight bytes write with a sign, in two's complement
 use mathlib.Core.Path.{_≡_}
 use mathlib.Core.List.{List, [], _∷_}
 use Prim.Native.Nat.{ℕ, _+_, _*_, _<_}
@@ -19,5 +19,5 @@ abbrev pub little : List ℕ → ℕ
 little [] = 0
 little (b ∷ bs) = b + 256 * little bs
 
-abbrev pub signed : List ℕ → ℤ
-signed bs = toZ w64 (little bs)
+abbrev pub signed-little : List ℕ → ℤ
+signed-little bs = toZ w64 (little bs)

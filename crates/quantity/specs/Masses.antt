@@ -4,13 +4,15 @@
 -- grams z           the count that z grams mean
 -- mass-model        what a mass means
 -- components-model  what a record of four masses means
--- Bounded z         z grams are within the bounds of a sheet: at most 10^12, either way
--- bounded z         the test for that
-use Prim.Native.Nat.{_^_}
-use mathlib.Core.Bool.{Bool, _&&_}
+-- bound             the largest count of grams, either way, that a sheet holds: 10^12
+-- bounded z         whether z grams are within the bound
+-- Bounded z         they are
+use Prim.Native.Nat.{ℕ, _^_}
+use mathlib.Core.Bool.{Bool, true, _&&_}
+use mathlib.Core.Path.{_≡_}
 use lib.Dec.{lit<}
 use lib.IntN.{ℤ, pos, negℤ}
-use lib.Signed.{_≤ℤ_, leZ}
+use lib.Signed.{leZ}
 use Rattle.quantity.specs.declared.components.Components.{Components}
 use Rattle.quantity.specs.declared.mass.Mass.{Mass}
 use Rattle.quantity.specs.Group.{Group, product}
@@ -32,8 +34,11 @@ components-model = record {
   means = λ c. ((grams (c .first .0), grams (c .second .0)), (grams (c .third .0), grams (c .fourth .0)));
 }
 
-abbrev pub Bounded : ℤ → Type 0
-Bounded z = (negℤ (pos 1000000000000) ≤ℤ z) × (z ≤ℤ pos 1000000000000)
+abbrev pub bound : ℕ
+bound = 1000000000000
 
 abbrev pub bounded : ℤ → Bool
-bounded z = leZ (negℤ (pos 1000000000000)) z && leZ z (pos 1000000000000)
+bounded z = leZ (negℤ (pos bound)) z && leZ z (pos bound)
+
+abbrev pub Bounded : ℤ → Type 0
+Bounded z = bounded z ≡ true

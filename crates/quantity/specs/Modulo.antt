@@ -1,9 +1,12 @@
 -- The whole numbers modulo m. Assumes nothing.
 --
--- Residue m    the numbers below m
--- rest m n     what n leaves when divided by m
--- modulo m     the residues as a group: the sum is the remainder of the plain sum
--- residue m z  the residue of a whole number of either sign
+-- Residue m       the numbers below m
+-- residue-path    residues are equal where their numbers are
+--
+-- These take m and a proof h that it is above 0:
+-- rest m h n      what n leaves when divided by m
+-- modulo m h      the residues as a group: the sum is the remainder of the plain sum
+-- residue m h z   the residue of a whole number of either sign
 use mathlib.Core.Path.{_≡_, ap}
 use mathlib.Core.HLevel.{Σ-prop-path}
 use native.Mathlib.Bridge.{le-prop}
@@ -17,7 +20,6 @@ use Rattle.quantity.specs.Remainders.{assoc-remainder, unit-remainder, inverse
 abbrev pub Residue : ℕ → Type 0
 Residue m = (n : ℕ) × (n < m)
 
--- residues are equal where their numbers are
 pub residue-path : {m : ℕ} {x y : Residue m} → x .0 ≡ y .0 → x ≡ y
 residue-path = Σ-prop-path (λ _. le-prop)
 

@@ -1,17 +1,30 @@
 //! Masses: signed counts of grams that wrap.
 ghost use mathlib.Core.Path.{_≡_};
+ghost use lib.IntN.{pos};
 ghost use Rattle.std.specs.Orderings.{Decides};
 ghost use Rattle.std.specs.Written.{signed};
 ghost use Rattle.std.specs.declared.option.Option.the-variants.{Some};
-ghost use Rattle.quantity.specs.Masses.{counts, grams, mass-model};
+ghost use Rattle.quantity.specs.Masses.{counts, grams, mass-model, bounded};
 use crate::Quantity;
 use std::fmt;
+
+/// The largest count of grams, either way, that a sheet holds.
+const BOUND: i64 = 1_000_000_000_000;
 
 /// A signed count of grams. It means that count modulo 2^64: sums and negatives wrap.
 #[derive(Clone, Copy)]
 pub struct Mass(pub i64);
 
-// The operations on counts modulo 2^64.
+impl Mass {
+    /// Whether the mass is at most 10^12 grams, either way.
+    pub fn is_bounded(self) -> bool
+        ensures { λ r. ⌜ r ≡ bounded (self .0) ⌝ }
+    {
+        -BOUND <= self.0 && self.0 <= BOUND
+    }
+}
+
+// The operations modulo 2^64, each with what its result means.
 fn wrapped_sum(a: i64, b: i64) -> i64
     ensures { λ r. ⌜ grams r ≡ counts .plus (grams a) (grams b) ⌝ }
 {
@@ -28,6 +41,13 @@ fn same_count(a: i64, b: i64) -> bool
     ensures { λ r. ⌜ Decides r (grams a ≡ grams b) ⌝ }
 {
     a == b
+}
+
+fn some_grams(count: i64) -> Mass
+    requires { ⌜ (count ≡ pos 0 → ⊥) ⌝ }
+    ensures { λ r. ⌜ (grams (r .0) ≡ counts .zero → ⊥) ⌝ }
+{
+    Mass(count)
 }
 
 pub impl Quantity for Mass as MassQuantity {
@@ -50,7 +70,7 @@ pub impl Quantity for Mass as MassQuantity {
     }
 
     fn nonzero() -> Mass {
-        Mass(1)
+        some_grams(1)
     }
 }
 

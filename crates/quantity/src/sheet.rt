@@ -3,14 +3,13 @@ ghost use Prim.Native.Nat.{ℕ};
 ghost use mathlib.Core.Path.{_≡_};
 ghost use mathlib.Core.List.{List};
 ghost use Rattle.std.specs.Options.{Cases, isSome};
-ghost use Rattle.quantity.specs.Bytes.{Eight, little, signed};
-ghost use Rattle.quantity.specs.Masses.{bounded};
-ghost use Rattle.quantity.specs.Sheet.{SheetForm, Holds, mass-form, totaliser-form};
+ghost use Rattle.quantity.specs.Bytes.{Eight, little, signed-little};
+ghost use Rattle.quantity.specs.Sheet.{SheetForm, Stand, mass-form, totaliser-form};
 ghost use Rattle.quantity.specs.Totalisers.{totaliser-model};
 use crate::Quantity;
 use crate::mass::Mass;
 use crate::mass::MassQuantity;
-use crate::totaliser::TURN;
+use crate::totaliser::MODULUS;
 use crate::totaliser::Totaliser;
 use crate::totaliser::TotaliserQuantity;
 
@@ -31,7 +30,7 @@ pub trait SheetQuantity: Quantity {
 
     /// The eight bytes that hold the amount; none where no eight bytes within the bounds do.
     fn to_bytes(self) -> Option<[u8; 8]>
-        ensures { λ r. ⌜ Cases r ((bs : List ℕ) → Eight bs → Holds (Self·Quantity .model) form bs self → ⊥) (λ bs. Holds (Self·Quantity .model) form bs self) ⌝ };
+        ensures { λ r. ⌜ Cases r ((bs : List ℕ) → Eight bs → Stand (Self·Quantity .model) form bs self → ⊥) (λ bs. Stand (Self·Quantity .model) form bs self) ⌝ };
 
     /// Whether the bytes are within the bounds.
     fn fits(bytes: [u8; 8]) -> bool
@@ -47,17 +46,9 @@ const MASS_CODE: u8 = 1;
 /// The code of totalisers.
 const TOTALISER_CODE: u8 = 2;
 
-/// The largest count of grams, either way, that a sheet holds.
-pub const MASS_BOUND: i64 = 1_000_000_000_000;
-
-fn within_bound(grams: i64) -> bool
-    ensures { λ r. ⌜ r ≡ bounded grams ⌝ }
-{
-    -MASS_BOUND <= grams && grams <= MASS_BOUND
-}
-
+// The library's conversions, in the words of specs/Bytes.
 fn signed_number(bytes: [u8; 8]) -> i64
-    ensures { λ r. ⌜ r ≡ signed bytes ⌝ }
+    ensures { λ r. ⌜ r ≡ signed-little bytes ⌝ }
 {
     i64::from_le_bytes(bytes)
 }
@@ -69,7 +60,7 @@ fn number(bytes: [u8; 8]) -> u64
 }
 
 fn signed_bytes(number: i64) -> [u8; 8]
-    ensures { λ r. ⌜ signed r ≡ number ⌝ }
+    ensures { λ r. ⌜ signed-little r ≡ number ⌝ }
 {
     number.to_le_bytes()
 }
@@ -80,8 +71,9 @@ fn bytes_of(number: u64) -> [u8; 8]
     number.to_le_bytes()
 }
 
+// The bytes of the advance that the number is taken as.
 fn advance_bytes(amount: Totaliser) -> [u8; 8]
-    ensures { λ r. ⌜ Holds totaliser-model totaliser-form r amount ⌝ }
+    ensures { λ r. ⌜ Stand totaliser-model totaliser-form r amount ⌝ }
 {
     bytes_of(u64::from(amount.advance()))
 }
@@ -94,16 +86,16 @@ pub impl SheetQuantity for Mass as MassSheet {
     }
 
     fn from_bytes(bytes: [u8; 8]) -> Option<Mass> {
-        let grams = signed_number(bytes);
-        if within_bound(grams) {
-            Some(Mass(grams))
+        let amount = Mass(signed_number(bytes));
+        if amount.is_bounded() {
+            Some(amount)
         } else {
             None
         }
     }
 
     fn to_bytes(self) -> Option<[u8; 8]> {
-        if within_bound(self.0) {
+        if self.is_bounded() {
             Some(signed_bytes(self.0))
         } else {
             None
@@ -120,7 +112,7 @@ pub impl SheetQuantity for Totaliser as TotaliserSheet {
 
     fn from_bytes(bytes: [u8; 8]) -> Option<Totaliser> {
         let advance = number(bytes);
-        if advance < u64::from(TURN) {
+        if advance < u64::from(MODULUS) {
             Some(Totaliser(advance as u32))
         } else {
             None

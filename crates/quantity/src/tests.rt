@@ -16,6 +16,13 @@ use crate::totaliser::TotaliserDisplay;
 use crate::totaliser::TotaliserQuantity;
 use std::test::*;
 
+const SAMPLE: Components = Components {
+    first: Mass(1),
+    second: Mass(-2),
+    third: Mass(i64::MIN),
+    fourth: Mass(4),
+};
+
 #[test]
 fn totalisers_roll_over() -> Result<(), Fail> {
     check_eq(Totaliser(999_999).plus(Totaliser(1)).0, 0)?;
@@ -48,7 +55,8 @@ fn masses_wrap() -> Result<(), Fail> {
 fn mass_bytes_stop_at_the_bounds() -> Result<(), Fail> {
     for grams in [0, 1_000_000_000_000, -1_000_000_000_000] {
         check(Mass::fits(i64::to_le_bytes(grams)))?;
-        check(Mass(grams).to_bytes() == Some(grams.to_le_bytes()))?;
+        let bytes = Mass(grams).to_bytes().ok_or("outside the bounds")?;
+        check(Mass::from_bytes(bytes).ok_or("not read again")?.0 == grams)?;
     }
     for grams in [1_000_000_000_001, -1_000_000_000_001, i64::MIN] {
         check(!Mass::fits(i64::to_le_bytes(grams)))?;
@@ -78,13 +86,7 @@ fn one_total_serves_all() -> Result<(), Fail> {
     )?;
     check_eq(total(&[Mass(i64::MAX), Mass(5), Mass(-7)]).0, i64::MAX - 2)?;
     check_eq(total_mass(&[Mass(100), Mass(-90)]).0, 10)?;
-    let sample = Components {
-        first: Mass(1),
-        second: Mass(-2),
-        third: Mass(i64::MIN),
-        fourth: Mass(4),
-    };
-    let sum = total(&[sample, sample]);
+    let sum = total(&[SAMPLE, SAMPLE]);
     check_eq(sum.fourth.0, 8)?;
     check(sum.third.same(Mass::zero()))?;
     let none: [Components; 0] = [];
@@ -95,13 +97,7 @@ fn one_total_serves_all() -> Result<(), Fail> {
 #[test]
 fn amounts_are_written_in_decimal(rt: LibcRuntime) -> Result<(), Fail> {
     let heap = rt.alloc();
-    let sample = Components {
-        first: Mass(1),
-        second: Mass(-2),
-        third: Mass(i64::MIN),
-        fourth: Mass(4),
-    };
     let past = Totaliser(1_000_007);
-    let text = format!(heap, "{sample}, {past}")?;
+    let text = format!(heap, "{SAMPLE}, {past}")?;
     check(text.as_str() == "1 -2 -9223372036854775808 4, 0")
 }

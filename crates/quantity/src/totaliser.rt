@@ -1,15 +1,15 @@
 //! Totalisers: advances of a six-digit roll-over counter.
 ghost use mathlib.Core.Path.{_≡_};
-ghost use Prim.Native.Nat.{_+_, _-_, _%_, _≤_};
+ghost use Prim.Native.Nat.{_+_, _-_, _%_, _<_};
 ghost use Rattle.std.specs.Orderings.{Decides};
 ghost use Rattle.std.specs.Written.{decimal};
 ghost use Rattle.std.specs.declared.option.Option.the-variants.{Some};
-ghost use Rattle.quantity.specs.Totalisers.{taken, advances, advance, totaliser-model};
+ghost use Rattle.quantity.specs.Totalisers.{modulus, taken, advances, advance-of, totaliser-model, Rolls-over};
 use crate::Quantity;
 use std::fmt;
 
-/// The number of advances after which the counter shows the same six digits again.
-pub const TURN: u32 = 1_000_000;
+/// The number of steps after which the counter shows the same six digits again.
+pub const MODULUS: u32 = 1_000_000;
 
 /// The advance of a six-digit roll-over counter, from 0 to 999,999.
 ///
@@ -23,59 +23,70 @@ impl Totaliser {
     pub fn advance(self) -> u32
         ensures { λ r. ⌜ r ≡ taken (self .0) ⌝ }
     {
-        if self.0 < TURN { self.0 } else { 0 }
+        if self.0 < MODULUS { self.0 } else { 0 }
     }
 
     /// Whether a counter that stands here passes 999,999 when it moves on by `more`.
     pub fn rolls_over(self, more: Totaliser) -> bool
-        ensures { λ r. ⌜ Decides r (1000000 ≤ taken (self .0) + taken (more .0)) ⌝ }
+        ensures { λ r. ⌜ Decides r (Rolls-over self more) ⌝ }
     {
-        self.advance() + more.advance() >= TURN
+        self.advance() + more.advance() >= MODULUS
     }
 }
 
-// The operations on advances modulo 1,000,000.
-fn turned_sum(a: Totaliser, b: Totaliser) -> Totaliser
-    ensures means { λ r. ⌜ advance (r .0) ≡ advances .plus (advance (a .0)) (advance (b .0)) ⌝ }
-    ensures value { λ r. ⌜ r .0 ≡ (taken (a .0) + taken (b .0)) % 1000000 ⌝ }
+// The operations modulo 1,000,000, each with the value of its result and with what that means.
+fn sum_modulo(a: Totaliser, b: Totaliser) -> Totaliser
+    ensures means { λ r. ⌜ advance-of (r .0) ≡ advances .plus (advance-of (a .0)) (advance-of (b .0)) ⌝ }
+    ensures value { λ r. ⌜ r .0 ≡ (taken (a .0) + taken (b .0)) % modulus ⌝ }
 {
-    Totaliser((a.advance() + b.advance()) % TURN)
+    Totaliser((a.advance() + b.advance()) % MODULUS)
 }
 
-fn turned_negative(a: Totaliser) -> Totaliser
-    ensures means { λ r. ⌜ advance (r .0) ≡ advances .minus (advance (a .0)) ⌝ }
-    ensures value { λ r. ⌜ r .0 ≡ (1000000 - taken (a .0)) % 1000000 ⌝ }
+fn negative_modulo(a: Totaliser) -> Totaliser
+    ensures means { λ r. ⌜ advance-of (r .0) ≡ advances .minus (advance-of (a .0)) ⌝ }
+    ensures value { λ r. ⌜ r .0 ≡ (modulus - taken (a .0)) % modulus ⌝ }
 {
-    Totaliser((TURN - a.advance()) % TURN)
+    Totaliser((MODULUS - a.advance()) % MODULUS)
 }
 
 fn same_advance(a: Totaliser, b: Totaliser) -> bool
-    ensures { λ r. ⌜ Decides r (advance (a .0) ≡ advance (b .0)) ⌝ }
+    ensures { λ r. ⌜ Decides r (advance-of (a .0) ≡ advance-of (b .0)) ⌝ }
 {
     a.advance() == b.advance()
+}
+
+fn some_advance(steps: u32) -> Totaliser
+    requires some { ⌜ 0 < steps ⌝ }
+    requires below { ⌜ steps < modulus ⌝ }
+    ensures { λ r. ⌜ (advance-of (r .0) ≡ advances .zero → ⊥) ⌝ }
+{
+    Totaliser(steps)
 }
 
 pub impl Quantity for Totaliser as TotaliserQuantity {
     ghost model = { totaliser-model };
 
-    fn zero() -> Totaliser {
+    fn zero() -> Totaliser
+        ensures means { λ r. ⌜ advance-of (r .0) ≡ advances .zero ⌝ }
+        ensures value { λ r. ⌜ r .0 ≡ 0 ⌝ }
+    {
         Totaliser(0)
     }
 
     /// The remainder of the plain sum by 1,000,000.
     fn plus(self, other: Totaliser) -> Totaliser
-        ensures means { λ r. ⌜ advance (r .0) ≡ advances .plus (advance (self .0)) (advance (other .0)) ⌝ }
-        ensures value { λ r. ⌜ r .0 ≡ (taken (self .0) + taken (other .0)) % 1000000 ⌝ }
+        ensures means { λ r. ⌜ advance-of (r .0) ≡ advances .plus (advance-of (self .0)) (advance-of (other .0)) ⌝ }
+        ensures value { λ r. ⌜ r .0 ≡ (taken (self .0) + taken (other .0)) % modulus ⌝ }
     {
-        turned_sum(self, other)
+        sum_modulo(self, other)
     }
 
     /// What is missing to 1,000,000; of 0 it is 0.
     fn negative(self) -> Totaliser
-        ensures means { λ r. ⌜ advance (r .0) ≡ advances .minus (advance (self .0)) ⌝ }
-        ensures value { λ r. ⌜ r .0 ≡ (1000000 - taken (self .0)) % 1000000 ⌝ }
+        ensures means { λ r. ⌜ advance-of (r .0) ≡ advances .minus (advance-of (self .0)) ⌝ }
+        ensures value { λ r. ⌜ r .0 ≡ (modulus - taken (self .0)) % modulus ⌝ }
     {
-        turned_negative(self)
+        negative_modulo(self)
     }
 
     fn same(self, other: Totaliser) -> bool {
@@ -83,7 +94,7 @@ pub impl Quantity for Totaliser as TotaliserQuantity {
     }
 
     fn nonzero() -> Totaliser {
-        Totaliser(1)
+        some_advance(1)
     }
 }
 

@@ -13,7 +13,7 @@ returns-in-Err g c =
 pub loop-place-again : need.loop-place-again
 loop-place-again g c =
     elim (c .if-not-is-passed-over .came) [
-      | then-not-is-passed-over·in-Ok·in-Continue-push w ↦ reads-entry (g .Q·Metered .writes) (g .Q·Metered .heading) (c .args .lines .now) (c .loop-place .place) _ (c .loop-place-test .taken) _ _ (c .loop-place .inv) (w .in-Ok .entry) (w .in-Ok .ensures tt) _ _ (ap vec-items (w .entries-is) ∙ w .in-Continue-push .ensures tt .items) (w .latest-is)
+      | then-not-is-passed-over·in-Ok·in-Continue-push w ↦ reads-entry (g .Q·Metered .writes) (g .Q·Metered .heading) (c .args .lines .now) (c .loop-place .place) _ (c .loop-place-test .taken) _ _ (c .loop-place .inv) (w .in-Ok .entry) (λ passed. both-ways _ (w .if-not-is-passed-over .taken) (c .is-passed-over .ensures .1 passed)) (w .in-Ok .ensures tt) _ _ (ap vec-items (w .entries-is) ∙ w .in-Continue-push .ensures tt .items) (w .latest-is)
       | else-not-is-passed-over w ↦ reads-passed (g .Q·Metered .writes) (g .Q·Metered .heading) (c .args .lines .now) (c .loop-place .place) _ (c .loop-place-test .taken) _ _ (c .loop-place .inv) (c .is-passed-over .ensures .0 (w .if-not-is-passed-over .left)) _ _ (ap vec-items (w .entries-is)) (w .latest-is)
     ]
 

@@ -1,5 +1,5 @@
 use borrow.Author.Needs.{needs}
-use Rattle.account.proofs.line.read_entry.Needs as need
+use Rattle.account.proofs.lines.read_entry.Needs as need
 
 -- the entry that the line gives, for a day that is not later
 pub returns-then-day-latest : need.returns-then-day-latest

@@ -1,7 +1,7 @@
 use native.Mathlib.Omega.{arith}
 use borrow.Author.Tests.{ltb-true, ltb-false}
 use Rattle.account.proofs.Heads.{headed-first, headed-none}
-use Rattle.account.proofs.reading.is_headed.Needs as need
+use Rattle.account.proofs.month.is_headed.Needs as need
 
 pub returns-in-empty : need.returns-in-empty
 returns-in-empty g c = headed-none (g .Q·Metered .heading) (c .args .lines .now) (omega (arith, ltb-true, ltb-false))
