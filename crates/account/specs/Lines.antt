@@ -1,6 +1,7 @@
 -- The lines of an account. Assumes nothing.
 --
--- A line is the list of its bytes. H is the heading of the account, and W bs a is for: the bytes bs write the amount a.
+-- A line is the list of its bytes; a space is 32, and # is 35. H is the heading of the account,
+-- and W bs a is for: the bytes bs write the amount a.
 --
 -- texts xs             what the references xs point to
 -- Passed H n l         the line l at place n is passed over: it is empty, begins with #, or is the heading in the first place

@@ -75,6 +75,7 @@ impl Account<Mass> {
         ensures kept { λ r. ⌜ made r (λ a. Keeps mass-model (now (entries .entry)) (vec-items (a .rows)) (a .total)) ⌝ }
         ensures exact { λ r. ⌜ made r (λ a. length (now (entries .entry)) ≤ 1024 → All (λ e. Bounded (e .amount .0)) (now (entries .entry)) → a .total .0 ≡ sum-all whole (map (λ e. e .amount .0) (now (entries .entry)))) ⌝ }
     {
+        // The proof speaks of the account by its name.
         let account = Account::new(heap, entries)?;
         Ok(account)
     }

@@ -1,5 +1,4 @@
 //! `plantbook FILE..` prints the month's account of one meter from each file; with no file, from standard input.
-use account::entry::Entry;
 use account::fault::ReadErrorDisplay;
 use account::month::Month;
 use account::month::read_month;

@@ -1,9 +1,9 @@
 -- How a quantity stands in a sheet. Assumes nothing.
 --
--- SheetForm       a quantity's code, and the amount that eight bytes hold, none where they are outside its bounds
--- Stand m f bs a  the bytes bs are within the bounds of the form f and stand for what the amount a means
--- mass-form       masses: code 1, a signed number within 10^12 either way
--- totaliser-form  totalisers: code 2, an unsigned number up to 999,999
+-- SheetForm          a quantity's code, and the amount that eight bytes hold, none where they are outside its bounds
+-- StandFor m f bs a  the bytes bs are within the bounds of the form f and stand for what the amount a means
+-- mass-form          masses: code 1, a signed number within 10^12 either way
+-- totaliser-form     totalisers: code 2, an unsigned number up to 999,999
 use mathlib.Core.Path.{_≡_}
 use mathlib.Core.Bool.{cond}
 use mathlib.Core.List.{List}
@@ -23,8 +23,8 @@ pub record SheetForm (Q : Type 0) : Type 0 where
   pub code : ℕ
   pub holds : List ℕ → Option Q
 
-abbrev pub Stand : {Q : Type 0} → Model Q → SheetForm Q → List ℕ → Q → Type 0
-Stand m f bs a = Cases (f .holds bs) ⊥ (λ b. m .means b ≡ m .means a)
+abbrev pub StandFor : {Q : Type 0} → Model Q → SheetForm Q → List ℕ → Q → Type 0
+StandFor m f bs a = Cases (f .holds bs) ⊥ (λ b. m .means b ≡ m .means a)
 
 abbrev pub mass-form : SheetForm Mass
 mass-form = record {

@@ -4,7 +4,7 @@ ghost use mathlib.Core.Path.{_≡_};
 ghost use mathlib.Core.List.{List};
 ghost use Rattle.std.specs.Options.{Cases, isSome};
 ghost use Rattle.quantity.specs.Bytes.{Eight, little, signed-little};
-ghost use Rattle.quantity.specs.Sheet.{SheetForm, Stand, mass-form, totaliser-form};
+ghost use Rattle.quantity.specs.Sheet.{SheetForm, StandFor, mass-form, totaliser-form};
 ghost use Rattle.quantity.specs.Totalisers.{totaliser-model};
 use crate::Quantity;
 use crate::mass::Mass;
@@ -30,7 +30,7 @@ pub trait SheetQuantity: Quantity {
 
     /// The eight bytes that hold the amount; none where no eight bytes within the bounds do.
     fn to_bytes(self) -> Option<[u8; 8]>
-        ensures { λ r. ⌜ Cases r ((bs : List ℕ) → Eight bs → Stand (Self·Quantity .model) form bs self → ⊥) (λ bs. Stand (Self·Quantity .model) form bs self) ⌝ };
+        ensures { λ r. ⌜ Cases r ((bs : List ℕ) → Eight bs → StandFor (Self·Quantity .model) form bs self → ⊥) (λ bs. StandFor (Self·Quantity .model) form bs self) ⌝ };
 
     /// Whether the bytes are within the bounds.
     fn fits(bytes: [u8; 8]) -> bool
@@ -73,7 +73,7 @@ fn bytes_of(number: u64) -> [u8; 8]
 
 // The bytes of the advance that the number is taken as.
 fn advance_bytes(amount: Totaliser) -> [u8; 8]
-    ensures { λ r. ⌜ Stand totaliser-model totaliser-form r amount ⌝ }
+    ensures { λ r. ⌜ StandFor totaliser-model totaliser-form r amount ⌝ }
 {
     bytes_of(u64::from(amount.advance()))
 }
