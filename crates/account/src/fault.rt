@@ -60,10 +60,7 @@ pub impl fmt::Display for ReadError as ReadErrorDisplay {
                 let reason = fault.reason();
                 write!(f, "line {number}: {reason}")
             }
-            ReadError::Memory => {
-                let reason = "there is not enough memory";
-                write!(f, "{reason}")
-            }
+            ReadError::Memory => write!(f, "there is not enough memory"),
         }
     }
 }

@@ -2,11 +2,11 @@
 use mathlib.Core.Path.{_≡_, subst}
 use mathlib.Core.List.{List, [], _∷_}
 use native.Mathlib.Omega.{arith}
-use Prim.Native.Nat.{ℕ, suc, _+_, _*_, _^_, _<_}
 use native.Mathlib.Nat.{pow-suc}
+use Prim.Native.Nat.{ℕ, _+_, _*_, _^_, _<_}
 use lib.Dec.{lit<}
-use Rattle.std.specs.shelf.Lists.{All}
 use lib.ListN.{length, getD}
+use Rattle.std.specs.shelf.Lists.{All}
 use Rattle.quantity.specs.Bytes.{Eight, little}
 
 pub little-eight : (bs : List ℕ) → length bs ≡ 8 → getD bs 0 0 + getD bs 1 0 * 256 + getD bs 2 0 * 65536 + getD bs 3 0 * 16777216 + getD bs 4 0 * 4294967296 + getD bs 5 0 * 1099511627776 + getD bs 6 0 * 281474976710656 + getD bs 7 0 * 72057594037927936 ≡ little bs

@@ -38,7 +38,14 @@ module _ (m : ℕ) (some : 0 < m) where
       (lifted (a +ℤ b) (down a + down b) (lift a + lift b) (omega (arith, ints)) ∙ add-mod (lift a) (lift b) m
       ∙ ap₂ (λ x y. (x + y) % m) (sym (lifted a (down a) (lift a) from)) (sym (lifted b (down b) (lift b) to)))
 
--- a test of two numbers for equality tells whether the residues that they stand for are one
+-- what the numbers of residues tell of their sum, their negative and their sameness
+module _ {m : ℕ} (some : 0 < m) where
+  pub residue-sum : (x y r : Residue m) (a b : ℕ) → a ≡ x .0 → b ≡ y .0 → r .0 ≡ (a + b) % m → r ≡ modulo m some .plus x y
+  residue-sum x y r a b p q e = residue-path (e ∙ ap₂ (λ k n. (k + n) % m) p q)
+
+  pub residue-negative : (x r : Residue m) (a : ℕ) → a ≡ x .0 → r .0 ≡ (m - a) % m → r ≡ modulo m some .minus x
+  residue-negative x r a p e = residue-path (e ∙ ap (λ n. (m - n) % m) p)
+
 pub residue-test : {m : ℕ} (x y : Residue m) (a b : ℕ) → a ≡ x .0 → b ≡ y .0 → Decides (eqb a b) (x ≡ y)
 residue-test x y a b p q =
     (λ e. residue-path (sym p ∙ eqb-true a b e ∙ q), λ e. eq-eqb a b (p ∙ ap (λ r. r .0) e ∙ sym q))
@@ -53,14 +60,13 @@ grams-of-bits n h = grams-bits (toZ w64 n) (sfits-toZ (record { fits = h })) ∙
 -- what the wrapping operations on 64 bits say of counts
 module _ (a : ℤ) (fits : SFits w64 a) where
   pub grams-minus : grams (toZ w64 ((2 ^ 64 - ofZ w64 a) % 2 ^ 64)) ≡ counts .minus (grams a)
-  grams-minus =
-      residue-path (grams-of-bits _ (mod-lt _ (lit< tt)) ∙ ap (λ x. (2 ^ 64 - x) % 2 ^ 64) (sym (grams-bits a fits)))
+  grams-minus = residue-negative (lit< tt) (grams a) _ (ofZ w64 a) (sym (grams-bits a fits)) (grams-of-bits _ (mod-lt _ (lit< tt)))
 
   module _ (b : ℤ) (fits-b : SFits w64 b) where
     pub grams-plus : grams (toZ w64 ((ofZ w64 a + ofZ w64 b) % 2 ^ 64)) ≡ counts .plus (grams a) (grams b)
     grams-plus =
-        residue-path
-        (grams-of-bits _ (mod-lt _ (lit< tt)) ∙ ap₂ (λ x y. (x + y) % 2 ^ 64) (sym (grams-bits a fits)) (sym (grams-bits b fits-b)))
+        residue-sum (lit< tt) (grams a) (grams b) _ (ofZ w64 a) (ofZ w64 b) (sym (grams-bits a fits)) (sym (grams-bits b fits-b))
+        (grams-of-bits _ (mod-lt _ (lit< tt)))
 
     pub grams-test : Decides (eqb (ofZ w64 a) (ofZ w64 b)) (grams a ≡ grams b)
     grams-test = residue-test (grams a) (grams b) (ofZ w64 a) (ofZ w64 b) (sym (grams-bits a fits)) (sym (grams-bits b fits-b))
@@ -92,14 +98,13 @@ advance-rest n = advance-taken (n % modulus) ∙ taken-small (n % modulus) (mod-
 
 pub advance-plus : (a b r : ℕ) → r ≡ (taken a + taken b) % modulus → advance-of r ≡ advances .plus (advance-of a) (advance-of b)
 advance-plus a b r e =
-    residue-path
-    (ap (λ n. advance-of n .0) e ∙ advance-rest (taken a + taken b)
-    ∙ ap₂ (λ x y. (x + y) % modulus) (sym (advance-taken a)) (sym (advance-taken b)))
+    residue-sum (lit< tt) (advance-of a) (advance-of b) (advance-of r) (taken a) (taken b) (sym (advance-taken a)) (sym (advance-taken b))
+    (ap (λ n. advance-of n .0) e ∙ advance-rest (taken a + taken b))
 
 pub advance-minus : (a r : ℕ) → r ≡ (modulus - taken a) % modulus → advance-of r ≡ advances .minus (advance-of a)
 advance-minus a r e =
-    residue-path
-    (ap (λ n. advance-of n .0) e ∙ advance-rest (modulus - taken a) ∙ ap (λ x. (modulus - x) % modulus) (sym (advance-taken a)))
+    residue-negative (lit< tt) (advance-of a) (advance-of r) (taken a) (sym (advance-taken a))
+    (ap (λ n. advance-of n .0) e ∙ advance-rest (modulus - taken a))
 
 pub advance-test : (a b x y : ℕ) → x ≡ taken a → y ≡ taken b → Decides (eqb x y) (advance-of a ≡ advance-of b)
 advance-test a b x y p q = residue-test (advance-of a) (advance-of b) x y (p ∙ sym (advance-taken a)) (q ∙ sym (advance-taken b))
