@@ -1,5 +1,5 @@
 -- The number that eight bytes write. Assumes nothing.
-use mathlib.Core.Path.{_≡_, subst}
+use mathlib.Core.Path.{_≡_, refl, sym, ap₂, _∙_, subst}
 use mathlib.Core.List.{List, [], _∷_}
 use native.Mathlib.Omega.{arith}
 use native.Mathlib.Nat.{pow-suc}
@@ -32,3 +32,18 @@ below-power (b ∷ bs) each =
 
 pub little-below : (bs : List ℕ) → Eight bs → little bs < 2 ^ 64
 little-below bs eight = let P : ℕ → Type 0 = λ n. little bs < 256 ^ n in subst P (eight .0) (below-power bs (eight .1))
+
+-- bytes that write one number are the same bytes
+same-length : (bs cs : List ℕ) → length bs ≡ length cs → All (λ b. b < 256) bs → All (λ c. c < 256) cs → little bs ≡ little cs → bs ≡ cs
+same-length [] [] long each-b each-c e = refl
+same-length [] (c ∷ cs) long each-b each-c e = absurd (omega arith)
+same-length (b ∷ bs) [] long each-b each-c e = absurd (omega arith)
+same-length (b ∷ bs) (c ∷ cs) long each-b each-c e =
+    let small-b = each-b .0 in
+    let small-c = each-c .0 in
+    let low : b ≡ c = omega arith in
+    let high : little bs ≡ little cs = omega arith in
+    ap₂ _∷_ low (same-length bs cs (omega arith) (each-b .1) (each-c .1) high)
+
+pub little-same : (bs cs : List ℕ) → Eight bs → Eight cs → little bs ≡ little cs → bs ≡ cs
+little-same bs cs b c e = same-length bs cs (b .0 ∙ sym (c .0)) (b .1) (c .1) e

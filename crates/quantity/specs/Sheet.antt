@@ -2,6 +2,8 @@
 --
 -- SheetForm          a quantity's code, and the amount that eight bytes hold, none where they are outside its bounds
 -- StandFor m f bs a  the bytes bs are within the bounds of the form f and stand for what the amount a means
+-- OnlyFor m f a bs   bs, and no other eight bytes, stand for the amount a
+-- Bytes-of m f a r   r is the one list of eight bytes that stands for the amount a, or none where no list does
 -- mass-form          masses: code 1, a signed number within 10^12 either way
 -- totaliser-form     totalisers: code 2, an unsigned number up to 999,999
 use mathlib.Core.Path.{_≡_}
@@ -14,7 +16,7 @@ use Rattle.std.specs.declared.option.Option.{Option}
 use Rattle.std.specs.declared.option.Option.the-variants.{Some, None}
 use Rattle.quantity.specs.declared.mass.Mass.{Mass}
 use Rattle.quantity.specs.declared.totaliser.Totaliser.{Totaliser}
-use Rattle.quantity.specs.Bytes.{little, signed-little}
+use Rattle.quantity.specs.Bytes.{Eight, little, signed-little}
 use Rattle.quantity.specs.Masses.{bounded}
 use Rattle.quantity.specs.Model.{Model}
 use Rattle.quantity.specs.Totalisers.{modulus}
@@ -25,6 +27,12 @@ pub record SheetForm (Q : Type 0) : Type 0 where
 
 abbrev pub StandFor : {Q : Type 0} → Model Q → SheetForm Q → List ℕ → Q → Type 0
 StandFor m f bs a = Cases (f .holds bs) ⊥ (λ b. m .means b ≡ m .means a)
+
+abbrev pub OnlyFor : {Q : Type 0} → Model Q → SheetForm Q → Q → List ℕ → Type 0
+OnlyFor m f a bs = StandFor m f bs a × ((cs : List ℕ) → Eight cs → StandFor m f cs a → cs ≡ bs)
+
+abbrev pub Bytes-of : {Q : Type 0} → Model Q → SheetForm Q → Q → Option (List ℕ) → Type 0
+Bytes-of m f a r = Cases r ((bs : List ℕ) → Eight bs → StandFor m f bs a → ⊥) (λ bs. OnlyFor m f a bs)
 
 abbrev pub mass-form : SheetForm Mass
 mass-form = record {

@@ -1,10 +1,10 @@
 //! Quantities that can stand in a sheet, as eight bytes.
-ghost use Prim.Native.Nat.{ℕ};
 ghost use mathlib.Core.Path.{_≡_};
-ghost use mathlib.Core.List.{List};
-ghost use Rattle.std.specs.Options.{Cases, isSome};
+ghost use mathlib.Core.Bool.{true};
+ghost use Rattle.std.specs.Options.{isSome};
 ghost use Rattle.quantity.specs.Bytes.{Eight, little, signed-little};
-ghost use Rattle.quantity.specs.Sheet.{SheetForm, StandFor, mass-form, totaliser-form};
+ghost use Rattle.quantity.specs.Masses.{mass-model, bounded};
+ghost use Rattle.quantity.specs.Sheet.{SheetForm, OnlyFor, Bytes-of, mass-form, totaliser-form};
 ghost use Rattle.quantity.specs.Totalisers.{totaliser-model};
 use crate::Quantity;
 use crate::mass::Mass;
@@ -28,9 +28,9 @@ pub trait SheetQuantity: Quantity {
     fn from_bytes(bytes: [u8; 8]) -> Option<Self>
         ensures { λ r. ⌜ r ≡ form .holds bytes ⌝ };
 
-    /// The eight bytes that hold the amount; none where no eight bytes within the bounds do.
+    /// The only eight bytes that stand for the amount; none where no eight bytes within the bounds do.
     fn to_bytes(self) -> Option<[u8; 8]>
-        ensures { λ r. ⌜ Cases r ((bs : List ℕ) → Eight bs → StandFor (Self·Quantity .model) form bs self → ⊥) (λ bs. StandFor (Self·Quantity .model) form bs self) ⌝ };
+        ensures { λ r. ⌜ Bytes-of (Self·Quantity .model) form self r ⌝ };
 
     /// Whether the bytes are within the bounds.
     fn fits(bytes: [u8; 8]) -> bool
@@ -60,20 +60,30 @@ fn number(bytes: [u8; 8]) -> u64
 }
 
 fn signed_bytes(number: i64) -> [u8; 8]
-    ensures { λ r. ⌜ signed-little r ≡ number ⌝ }
+    ensures value { λ r. ⌜ signed-little r ≡ number ⌝ }
+    ensures eight { λ r. ⌜ Eight r ⌝ }
 {
     number.to_le_bytes()
 }
 
 fn bytes_of(number: u64) -> [u8; 8]
-    ensures { λ r. ⌜ little r ≡ number ⌝ }
+    ensures value { λ r. ⌜ little r ≡ number ⌝ }
+    ensures eight { λ r. ⌜ Eight r ⌝ }
 {
     number.to_le_bytes()
 }
 
+// The bytes of a mass within the bounds.
+fn mass_bytes(amount: Mass) -> [u8; 8]
+    requires { ⌜ bounded (amount .0) ≡ true ⌝ }
+    ensures { λ r. ⌜ OnlyFor mass-model mass-form amount r ⌝ }
+{
+    signed_bytes(amount.0)
+}
+
 // The bytes of the advance that the number is taken as.
 fn advance_bytes(amount: Totaliser) -> [u8; 8]
-    ensures { λ r. ⌜ StandFor totaliser-model totaliser-form r amount ⌝ }
+    ensures { λ r. ⌜ OnlyFor totaliser-model totaliser-form amount r ⌝ }
 {
     bytes_of(u64::from(amount.advance()))
 }
@@ -96,7 +106,7 @@ pub impl SheetQuantity for Mass as MassSheet {
 
     fn to_bytes(self) -> Option<[u8; 8]> {
         if self.is_bounded() {
-            Some(signed_bytes(self.0))
+            Some(mass_bytes(self))
         } else {
             None
         }
