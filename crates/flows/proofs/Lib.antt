@@ -1,0 +1,13 @@
+pub mod Groups
+pub mod Sums
+pub mod Nets
+pub mod Balances
+pub mod Joins
+pub mod Paths
+pub mod Merging
+pub mod Computed
+pub mod Filling
+pub mod Decisions
+pub mod Cuts
+pub mod Evenness
+pub mod Results

@@ -1,0 +1,11 @@
+pub mod Drawings
+pub mod Parts
+pub mod Paths
+pub mod Labels
+pub mod Flows
+pub mod Filling
+pub mod Comparisons
+pub mod Consistency
+pub mod Classes
+pub mod Decisions
+pub mod Theorems

@@ -1,0 +1,66 @@
+//! What is true of every drawing, every table of readings and every flow, for every quantity.
+//!
+//! The functions do nothing. Each has a theorem as its contract, so that the crate is proved only if the theorem is.
+ghost use Rattle.flows.specs.Theorems.{Balanced-flows-have-no-net, Some-flow-exactly-if-consistent, Some-flow-exactly-if-not-inconsistent, Conflict-excludes-flows, Conflict-exactly-if-no-flow, Zero-or-anything, Observable-carries-its-cut-sum, Redundant-carries-one-amount, Unobservable-carries-anything, Just-measured-carries-anything, On-a-path-exactly-if-linked, Exactly-one-class};
+use quantity::Quantity;
+
+/// A balanced flow has net zero over every set of places, with or without the surroundings.
+pub fn balanced_flows_have_no_net<Q: Quantity>()
+    ensures { λ _. ⌜ Balanced-flows-have-no-net (model .group) ⌝ }
+{}
+
+/// Some balanced flow agrees with the readings exactly if each part without the surroundings has the net amount zero.
+pub fn some_flow_exactly_if_consistent<Q: Quantity>()
+    ensures { λ _. ⌜ Some-flow-exactly-if-consistent (model .group) ⌝ }
+{}
+
+/// Where amounts can be told apart: some balanced flow agrees exactly if the plant is not inconsistent.
+pub fn some_flow_exactly_if_not_inconsistent<Q: Quantity>()
+    ensures { λ _. ⌜ Some-flow-exactly-if-not-inconsistent (model .group) ⌝ }
+{}
+
+/// Where only read streams cross a set of units and its net amount is not zero, no balanced flow agrees.
+pub fn conflict_excludes_flows<Q: Quantity>()
+    ensures { λ _. ⌜ Conflict-excludes-flows (model .group) ⌝ }
+{}
+
+/// Where amounts can be told apart: there is such a set exactly if no balanced flow agrees.
+pub fn conflict_exactly_if_no_flow<Q: Quantity>()
+    ensures { λ _. ⌜ Conflict-exactly-if-no-flow (model .group) ⌝ }
+{}
+
+/// Of the balanced flows that are zero on a set of streams: all are zero at a stream outside it, or it may carry anything.
+/// Which of the two is decided by whether streams outside the set, other than itself, join its ends.
+pub fn zero_or_anything<Q: Quantity>()
+    ensures { λ _. ⌜ Zero-or-anything (model .group) ⌝ }
+{}
+
+/// An observable stream has a cut sum, and carries it in every balanced flow that agrees.
+pub fn observable_carries_its_cut_sum<Q: Quantity>()
+    ensures { λ _. ⌜ Observable-carries-its-cut-sum (model .group) ⌝ }
+{}
+
+/// A redundant stream carries one amount in all balanced flows that agree with the other readings.
+pub fn redundant_carries_one_amount<Q: Quantity>()
+    ensures { λ _. ⌜ Redundant-carries-one-amount (model .group) ⌝ }
+{}
+
+/// Where some balanced flow agrees, an unobservable stream carries any given amount in one of them.
+pub fn unobservable_carries_anything<Q: Quantity>()
+    ensures { λ _. ⌜ Unobservable-carries-anything (model .group) ⌝ }
+{}
+
+/// A just-measured stream carries any given amount in one of the balanced flows that agree with the other readings.
+pub fn just_measured_carries_anything<Q: Quantity>()
+    ensures { λ _. ⌜ Just-measured-carries-anything (model .group) ⌝ }
+{}
+
+/// An unread stream is on a closed path of unread streams exactly if unread streams other than itself join its ends.
+pub fn on_a_path_exactly_if_linked()
+    ensures { λ _. ⌜ On-a-path-exactly-if-linked ⌝ }
+{}
+
+/// Every stream number has exactly one class.
+pub fn exactly_one_class()
+    ensures { λ _. ⌜ Exactly-one-class ⌝ }
+{}
