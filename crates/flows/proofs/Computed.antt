@@ -27,15 +27,12 @@ module _ (D : Drawing) (e : ℕ → Bool) where
       at false h = h
 
   pub label-start : (w : ℕ) → w ≤ D .units → label D e 0 w ≡ w
-  unfolding label
   label-start w lw = getD-counting 0 (suc (D .units)) w 0 (omega arith) ∙ zero-add w
 
   label-skip : (n w : ℕ) → e n ≡ false → label D e (suc n) w ≡ label D e n w
-  unfolding label
   label-skip n w o = ap (λ b. getD (cond b (merged (D .from n) (D .to n) (labels D e n)) (labels D e n)) w 0) o
 
   label-merge : (n w : ℕ) → e n ≡ true → w ≤ D .units → label D e (suc n) w ≡ cond (eqb (label D e n w) (label D e n (D .to n))) (label D e n (D .from n)) (label D e n w)
-  unfolding label
   label-merge n w i lw =
       ap (λ b. getD (cond b (merged (D .from n) (D .to n) (labels D e n)) (labels D e n)) w 0) i
       ∙ getD-map (λ x. cond (eqb x (getD (labels D e n) (D .to n) 0)) (getD (labels D e n) (D .from n) 0) x) (labels D e n) w 0 0

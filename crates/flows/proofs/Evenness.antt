@@ -110,7 +110,7 @@ module _ (G : Group) (D : Drawing) (within : Within D) where
             uneven = λ q. true≢false (sym (s .decides _ _ .1 (sym (net-short G D m above _ _) ∙ q)) ∙ parts .1);
           }
 
-      all-even-each : (n : ℕ) → all-even G s D t m n ≡ true → (v : ℕ) → v < n → even G s D t m v ≡ true
+      pub all-even-each : (n : ℕ) → all-even G s D t m n ≡ true → (v : ℕ) → v < n → even G s D t m v ≡ true
       all-even-each zero h v lt = absurd (omega arith)
       all-even-each (suc n) h v lt =
           let parts = and-parts (all-even G s D t m n) (even G s D t m n) h in

@@ -1,7 +1,7 @@
 -- Places that streams join. Assumes nothing.
 use mathlib.Core.Bool.{Bool, true, false}
 use mathlib.Core.Logic.{inl, inr}
-use mathlib.Core.Path.{_≡_, refl, sym, ap, _∙_}
+use mathlib.Core.Path.{_≡_, refl, sym, ap, _∙_, subst}
 use Prim.Native.Nat.{ℕ, _≤_}
 use Rattle.flows.specs.Drawings.{Drawing, Between}
 use Rattle.flows.specs.Parts.{Joined, here, along, Part, Uncrossed}
@@ -53,3 +53,12 @@ module _ {D : Drawing} where
   -- sets of streams with the same members have the same parts
   pub part-map : {S T : ℕ → Type 0} {v : ℕ} {C : ℕ → Bool} → ((k : ℕ) → S k → T k) → ((k : ℕ) → T k → S k) → Part D S v C → Part D T v C
   part-map f g p w lw = (λ i. joined-map f (p w lw .0 i), λ j. p w lw .1 (joined-map g j))
+
+  -- a place that streams join to a place within the drawing is within it
+  pub joined-within : {S : ℕ → Type 0} {a b : ℕ} → ((k : ℕ) → S k → (D .from k ≤ D .units) × (D .to k ≤ D .units)) → a ≤ D .units → Joined D S a b → b ≤ D .units
+  joined-within w la here = la
+  joined-within {a = a} w la (along {b = b} k s e j) = joined-within w (at e) j
+    where
+      at : Between D k a b → b ≤ D .units
+      at (inl q) = subst (λ v. v ≤ D .units) (q .1) (w k s .1)
+      at (inr q) = subst (λ v. v ≤ D .units) (q .0) (w k s .0)

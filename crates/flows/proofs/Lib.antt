@@ -11,3 +11,5 @@ pub mod Decisions
 pub mod Cuts
 pub mod Evenness
 pub mod Results
+pub mod Tallies
+pub mod WorkedPlants

@@ -12,7 +12,8 @@ use Rattle.std.specs.Options.{isSome}
 use Rattle.quantity.specs.Group.{Group}
 use Rattle.flows.specs.Classes.{Is}
 use Rattle.flows.specs.Consistency.{net-reading, Inconsistent, Consistent, Conflict, Cut-sum}
-use Rattle.flows.specs.Decisions.{unread, side, class}
+use Rattle.flows.specs.Comparisons.{Comparison}
+use Rattle.flows.specs.Decisions.{Above, unread, side, class, cut-sum}
 use Rattle.flows.specs.declared.class.Class.{Class}
 use Rattle.flows.specs.declared.class.Class.the-variants.{OutOfUse, Observable, Unobservable, Redundant, JustMeasured}
 use Rattle.flows.specs.Drawings.{Drawing, In-use, Within}
@@ -21,7 +22,7 @@ use Rattle.flows.specs.Parts.{Unread, Part, Uncrossed, Linked}
 use Rattle.flows.specs.Theorems.{Balanced-flows-have-no-net, Some-flow-exactly-if-consistent, Some-flow-exactly-if-not-inconsistent, Conflict-excludes-flows, Conflict-exactly-if-no-flow, Zero-or-anything, Observable-carries-its-cut-sum, Redundant-carries-one-amount, Unobservable-carries-anything, Just-measured-carries-anything, On-a-path-exactly-if-linked, Exactly-one-class}
 use Rattle.flows.proofs.Balances.{balanced-net, balanced-plus, balanced-difference}
 use Rattle.flows.proofs.Cuts.{ends-within, side-amount, zero-at, anything-at}
-use Rattle.flows.proofs.Decisions.{above-size, from-unread, unread-used, side-is, class-is, class-only, linked-from-one-part, linked-from-path, path-from-linked, one-part-from-linked}
+use Rattle.flows.proofs.Decisions.{above-size, from-unread, unread-used, side-is, class-is, class-only, net-short, linked-from-one-part, linked-from-path, path-from-linked, one-part-from-linked}
 use Rattle.flows.proofs.Evenness.{sets-even, not-both, one-of-both}
 use Rattle.flows.proofs.Filling.{fill-start, flow-exists}
 use Rattle.flows.proofs.Groups.{inverse-l, made-up, minus-difference, same-from-difference, unit-r}
@@ -62,6 +63,15 @@ module _ (G : Group) (D : Drawing) (t : ℕ → Option (G .Element)) where
   -- the streams read, other than n
   others-read : ℕ → ℕ → Bool
   others-read n k = read-set t k && not (eqb k n)
+
+-- the computed cut sum is the cut sum
+pub cut-sum-is : (G : Group) (D : Drawing) (t : ℕ → Option (G .Element)) (s : Comparison G) (m : ℕ) → Above D m → Within D → (n : ℕ) → In-use D n → (x : G .Element) → x ≡ cut-sum G s D t m n → Cut-sum G D t n x
+unfolding net
+cut-sum-is G D t s m above w n us x e = record {
+  side = side D (read-set t) m n;
+  from-side = side-is D (read-set t) m above w n us;
+  sum = e ∙ ap (G .minus) (sym (net-short G D m above (side D (read-set t) m n) (readings G t))) ∙ minus-difference G _ _;
+}
 
 module _ (G : Group) where
   open Group G using (Element, plus, minus)

@@ -49,7 +49,7 @@ abbrev pub labels : Drawing → (ℕ → Bool) → ℕ → List ℕ
 labels D e zero = counting 0 (suc (D .units))
 labels D e (suc n) = cond (e n) (merged (D .from n) (D .to n) (labels D e n)) (labels D e n)
 
-unfoldable pub label : Drawing → (ℕ → Bool) → ℕ → ℕ → ℕ
+abbrev pub label : Drawing → (ℕ → Bool) → ℕ → ℕ → ℕ
 label D e n w = getD (labels D e n) w 0
 
 abbrev pub linked : Drawing → (ℕ → Bool) → ℕ → ℕ → Bool

@@ -9,3 +9,8 @@ pub mod Consistency
 pub mod Classes
 pub mod Decisions
 pub mod Theorems
+pub mod Plants
+pub mod Refusals
+pub mod Questions
+pub mod Worked
+pub mod WorkedTests

@@ -4,4 +4,7 @@
 //! [`theorems`].
 
 pub mod class;
+pub mod ends;
+pub mod fault;
 pub mod theorems;
+pub mod worked;
