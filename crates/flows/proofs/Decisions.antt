@@ -9,11 +9,11 @@ use Rattle.std.proofs.shelf.Tests.{cases-bool, cases-eq, cases-lt, eq-eqb, ne-e
 use Rattle.std.specs.Orderings.{Decides}
 use Rattle.quantity.specs.Group.{Group}
 use Rattle.flows.specs.Classes.{Ends-in-one-part, Is}
-use Rattle.flows.specs.Decisions.{Above, unread, unread-but, label, linked, class, net-below, part, side}
+use Rattle.flows.specs.Decisions.{Above, unread, unread-but, label, linked, class, part, side}
 use Rattle.flows.specs.declared.class.Class.{Class}
 use Rattle.flows.specs.declared.class.Class.the-variants.{OutOfUse, Observable, Unobservable, Redundant, JustMeasured}
 use Rattle.flows.specs.Drawings.{Drawing, In-use, Within}
-use Rattle.flows.specs.Flows.{pick, total-below, total, net}
+use Rattle.flows.specs.Flows.{pick, total-below, total, net, net-below}
 use Rattle.flows.specs.Labels.{Below, Labels}
 use Rattle.flows.specs.Parts.{Read, Unread, Others, Joined, Part, Linked}
 use Rattle.flows.specs.Paths.{Closed-path}

@@ -11,9 +11,9 @@ use Rattle.std.specs.declared.option.Option.the-variants.{None, Some}
 use Rattle.quantity.specs.Group.{Group}
 use Rattle.flows.specs.Comparisons.{Comparison}
 use Rattle.flows.specs.Consistency.{net-reading, Uneven, Inconsistent, Consistent}
-use Rattle.flows.specs.Decisions.{Above, net-below, part, even, all-even, consistent}
+use Rattle.flows.specs.Decisions.{Above, part, even, all-even, consistent}
 use Rattle.flows.specs.Drawings.{Drawing, In-use, Within}
-use Rattle.flows.specs.Flows.{net, read-set, readings}
+use Rattle.flows.specs.Flows.{net, read-set, readings, net-below}
 use Rattle.flows.specs.Labels.{Labels}
 use Rattle.flows.specs.Parts.{Unread, Joined, here, Part, Uncrossed}
 use Rattle.flows.proofs.Balances.{net-empty}

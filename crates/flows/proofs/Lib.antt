@@ -1,6 +1,7 @@
 pub mod Groups
 pub mod Sums
 pub mod Nets
+pub mod Summing
 pub mod Balances
 pub mod Joins
 pub mod Paths
@@ -13,3 +14,4 @@ pub mod Evenness
 pub mod Results
 pub mod Tallies
 pub mod WorkedPlants
+pub mod Agreement

@@ -7,7 +7,7 @@ use Rattle.quantity.specs.Group.{Group}
 use Rattle.quantity.specs.Sums.{sum}
 use Rattle.quantity.proofs.GroupSums.{sum-same}
 use Rattle.flows.specs.Drawings.{Drawing, In-use}
-use Rattle.flows.specs.Flows.{pick, total, leaving, entering, net}
+use Rattle.flows.specs.Flows.{pick, total, net, net-below}
 use Rattle.flows.proofs.Groups.{unit-r, middle, minus-zero, minus-plus}
 use Rattle.flows.proofs.Sums.{sum-none, sum-plus, sum-minus}
 
@@ -18,13 +18,13 @@ module _ (G : Group) (D : Drawing) where
   unfoldable pub crossing : (ℕ → Bool) → (ℕ → Element) → ℕ → Element
   crossing C f k = pick G (D .used k) (plus (pick G (C (D .from k)) (f k)) (minus (pick G (C (D .to k)) (f k))))
 
-  -- the net amount as one sum over the streams
-  pub net-is : (C : ℕ → Bool) (f : ℕ → Element) → net G D C f ≡ sum G (D .size) (crossing C f)
-  unfolding net total crossing
-  net-is C f = sym (
-      sum-same G (D .size) _ _ (λ k _. at (D .used k) (C (D .from k)) (C (D .to k)) (f k))
-      ∙ sum-plus G (D .size) (λ k. pick G (D .used k && (C (D .from k) && not (C (D .to k)))) (f k)) (λ k. minus (pick G (D .used k && (C (D .to k) && not (C (D .from k)))) (f k)))
-      ∙ ap (plus _) (sum-minus G (D .size) (λ k. pick G (D .used k && (C (D .to k) && not (C (D .from k)))) (f k))))
+  -- a net amount as one sum over the streams
+  pub net-below-is : (n : ℕ) (C : ℕ → Bool) (f : ℕ → Element) → net-below G D n C f ≡ sum G n (crossing C f)
+  unfolding crossing
+  net-below-is n C f = sym (
+      sum-same G n _ _ (λ k _. at (D .used k) (C (D .from k)) (C (D .to k)) (f k))
+      ∙ sum-plus G n (λ k. pick G (D .used k && (C (D .from k) && not (C (D .to k)))) (f k)) (λ k. minus (pick G (D .used k && (C (D .to k) && not (C (D .from k)))) (f k)))
+      ∙ ap (plus _) (sum-minus G n (λ k. pick G (D .used k && (C (D .to k) && not (C (D .from k)))) (f k))))
     where
       at : (u a b : Bool) (x : Element)
           → pick G u (plus (pick G a x) (minus (pick G b x))) ≡ plus (pick G (u && (a && not b)) x) (minus (pick G (u && (b && not a)) x))
@@ -33,6 +33,10 @@ module _ (G : Group) (D : Drawing) where
       at true false true x = refl
       at true false false x = refl
       at false a b x = sym (inverse (G .zero))
+
+  pub net-is : (C : ℕ → Bool) (f : ℕ → Element) → net G D C f ≡ sum G (D .size) (crossing C f)
+  unfolding net total
+  net-is C f = net-below-is (D .size) C f
 
   -- two nets are equal where each stream in use crosses alike
   net-by-streams : (B C : ℕ → Bool) (f g : ℕ → Element)

@@ -23,7 +23,7 @@ use Rattle.quantity.specs.Totalisers.{modulus, totaliser-model}
 use Rattle.flows.specs.Classes.{Is, byte}
 use Rattle.flows.specs.Comparisons.{Comparison, compare-residues}
 use Rattle.flows.specs.Consistency as plant
-use Rattle.flows.specs.Decisions.{Above, class, net-below, part, even, all-even, consistent, cut-sum}
+use Rattle.flows.specs.Decisions.{Above, class, part, even, all-even, consistent, cut-sum}
 use Rattle.flows.specs.declared.class.Class.{Class}
 use Rattle.flows.specs.declared.class.Class.the-variants.{OutOfUse, Observable, Unobservable, Redundant, JustMeasured}
 use Rattle.flows.specs.declared.ends.Ends.{Ends}
@@ -36,12 +36,12 @@ use Rattle.flows.specs.declared.worked.Worked.{Worked}
 use Rattle.flows.specs.declared.worked.Worked.the-variants.{OfMasses, OfTotalisers}
 use Rattle.flows.specs.declared.worked.WorkedPlant.{WorkedPlant}
 use Rattle.flows.specs.Drawings.{Drawing, In-use, Within}
-use Rattle.flows.specs.Flows.{total-below, arriving, departing, Possible-but, read-set, readings}
+use Rattle.flows.specs.Flows.{total-below, arriving, departing, Possible-but, read-set, readings, net-below}
 use Rattle.flows.specs.Parts.{Unread, Joined}
 use Rattle.flows.specs.Plants.{last-number, Number, from-unit, to-unit}
 use Rattle.flows.specs.Questions.{unit-places, holds, count, Survey-fits, Value-fits, Rival-fits, Dispute-fits, Surveyed, Valued, by-reading, by-cut-sum, no-amount, Written, Rivalled, Disputed, Surveys, Values, Rivals, Disputes}
-use Rattle.flows.specs.Refusals.{number}
-use Rattle.flows.specs.Worked.{at-number, place, plan, shown-readings, accepted, classes-over, flow-over, first-over, second-over, marks-over, Shown, Right}
+use Rattle.flows.specs.Refusals.{number, accepted}
+use Rattle.flows.specs.Worked.{at-number, place, plan, shown-readings, classes-over, flow-over, first-over, second-over, marks-over, Shown, Right}
 use Rattle.flows.specs.WorkedTests.{all-below, every, none-fits, smallest, within-test, same-mark, first-mark, top, steady, has-class, shape, survey-fits, value-fits, rival-fits, dispute-fits, counted, survey-right, reads, value-right, flow-of, allows, flow-right, rival-right, dispute-right, row-right, right, all-right}
 use Rattle.flows.proofs.Cuts.{ends-within}
 use Rattle.flows.proofs.Decisions.{fails, part-is, side-is, class-is, class-only, total-short, net-short}

@@ -10,7 +10,6 @@
 -- label D e n w        the label of place w
 -- linked D R m n       unread streams other than n join the two ends of n
 -- class D R m n        the class of stream n
--- net-below G D m C f  the net amount
 -- part D R m v         the part of unit v, as a test
 -- side D R m n         the side of the from unit of n without n, as a test
 -- cut-sum G D t m n    the cut sum of n
@@ -29,7 +28,7 @@ use Rattle.flows.specs.Comparisons.{Comparison}
 use Rattle.flows.specs.declared.class.Class.{Class}
 use Rattle.flows.specs.declared.class.Class.the-variants.{OutOfUse, Observable, Unobservable, Redundant, JustMeasured}
 use Rattle.flows.specs.Drawings.{Drawing, In-use}
-use Rattle.flows.specs.Flows.{total-below, read-set, readings}
+use Rattle.flows.specs.Flows.{net-below, read-set, readings}
 
 pub record Above (D : Drawing) (m : ℕ) : Type 0 where
   pub size : m ≤ D .size
@@ -59,9 +58,6 @@ abbrev pub class : Drawing → (ℕ → Bool) → ℕ → ℕ → Class
 class D R m n = cond (D .used n)
     (cond (R n) (cond (linked D R m n) JustMeasured Redundant) (cond (linked D R m n) Unobservable Observable))
     OutOfUse
-
-abbrev pub net-below : (G : Group) → Drawing → ℕ → (ℕ → Bool) → (ℕ → G .Element) → G .Element
-net-below G D m C f = G .plus (total-below G D m (λ k. C (D .from k) && not (C (D .to k))) f) (G .minus (total-below G D m (λ k. C (D .to k) && not (C (D .from k))) f))
 
 abbrev pub part : Drawing → (ℕ → Bool) → ℕ → ℕ → ℕ → Bool
 part D R m v w = eqb (label D (unread D R) m w) (label D (unread D R) m v)

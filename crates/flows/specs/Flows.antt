@@ -11,6 +11,7 @@
 -- leaving G D C f       what f carries from a place in C to one outside
 -- entering G D C f      what f carries from a place outside C to one in C
 -- net G D C f           leaving less entering
+-- net-below G D m C f   .. over the streams below m alone
 -- Balanced G D f        at each place from 1 to units, f brings as much as it takes away
 -- Agrees G D t f        f has the reading of each read stream
 -- Agrees-but G D n t f  .. of each other than n
@@ -54,6 +55,9 @@ entering G D C f = total G D (λ k. C (D .to k) && not (C (D .from k))) f
 
 unfoldable pub net : (G : Group) → Drawing → (ℕ → Bool) → (ℕ → G .Element) → G .Element
 net G D C f = G .plus (leaving G D C f) (G .minus (entering G D C f))
+
+abbrev pub net-below : (G : Group) → Drawing → ℕ → (ℕ → Bool) → (ℕ → G .Element) → G .Element
+net-below G D m C f = G .plus (total-below G D m (λ k. C (D .from k) && not (C (D .to k))) f) (G .minus (total-below G D m (λ k. C (D .to k) && not (C (D .from k))) f))
 
 abbrev pub Balanced : (G : Group) → Drawing → (ℕ → G .Element) → Type 0
 Balanced G D f = (v : ℕ) → 1 ≤ v → v ≤ D .units → arriving G D f v ≡ departing G D f v

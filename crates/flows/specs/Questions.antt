@@ -4,6 +4,7 @@
 -- stands at each place, and none past its end. `old` and `new` are a table before and after the call.
 --
 -- Survey-fits, Value-fits, Rival-fits, Dispute-fits   when each refusal fits
+-- meant m a             what an amount means, if there is one
 -- tally p n             how many numbers below n pass p
 -- count b table n       how often the byte b stands at places below n
 -- Surveyed              what an accepted survey answers and writes: class bytes, and how often each class occurs
@@ -37,6 +38,10 @@ use Rattle.flows.specs.Refusals.{number, Answer}
 -- Dispute has a place for each unit that a plant may have, 0 to 256.
 abbrev pub unit-places : ℕ
 unit-places = 257
+
+abbrev pub meant : {Q : Type 0} (m : Model Q) → Option Q → Option (m .group .Element)
+meant m (Some a) = Some (m .means a)
+meant m None = None
 
 abbrev pub tally : (ℕ → Bool) → ℕ → ℕ
 tally p zero = 0

@@ -4,6 +4,7 @@
 -- Answer number Fits Done Kept r   how a call answers whose refusals fit as Fits says:
 --                            accepted, no refusal fits and Done holds of what it answers;
 --                            refused, the refusal given fits, none with a smaller number does, and Kept holds
+-- accepted f r               what f makes of an accepted answer; a refusal stays as it is
 use Prim.Native.Nat.{ℕ, _≤_}
 use Rattle.std.specs.declared.result.Result.{Result}
 use Rattle.std.specs.declared.result.Result.the-variants.{Ok, Err}
@@ -21,3 +22,7 @@ number Consistent = 28
 abbrev pub Answer : {T F : Type 0} → (F → ℕ) → (F → Type 0) → (T → Type 0) → Type 0 → Result T F → Type 0
 Answer {T} {F} number Fits Done Kept (Ok x) = ((f : F) → ¬ Fits f) × Done x
 Answer {T} {F} number Fits Done Kept (Err f) = Fits f × ((g : F) → Fits g → number f ≤ number g) × Kept
+
+abbrev pub accepted : {T U F : Type 0} → (T → U) → Result T F → Result U F
+accepted f (Ok x) = Ok (f x)
+accepted f (Err e) = Err e

@@ -15,21 +15,32 @@
 -- Just-measured-carries-anything G         .. of the flows that agree with the other readings, a just-measured stream too
 -- On-a-path-exactly-if-linked              an unread stream is on a closed path of unread streams exactly if it is linked
 -- Exactly-one-class                        every number has exactly one class
+-- Decisions-are-right G                    the computed class, consistency and cut sum are those of the definitions
+-- Survey-answers-agree m                   two answers that survey may give are one: counts or refusal, and the table
+-- Value-answers-agree m                    .. that value may give mean the same
+-- Dispute-answers-agree m                  .. that dispute may give mean the same, and the tables are one
 use mathlib.Core.Bool.{Bool, true, false}
 use mathlib.Core.Logic.{_↔_}
 use mathlib.Core.Path.{_≡_}
-use Prim.Native.Nat.{ℕ}
+use Prim.Native.Nat.{ℕ, _<_}
 use Rattle.std.specs.declared.option.Option.{Option}
+use Rattle.std.specs.declared.result.Result.{Result}
+use Rattle.std.specs.Orderings.{Decides}
 use Rattle.quantity.specs.Group.{Group}
+use Rattle.quantity.specs.Model.{Model}
 use Rattle.flows.specs.Classes.{Is}
 use Rattle.flows.specs.Comparisons.{Comparison}
+use Rattle.flows.specs.Decisions.{Above, class, consistent, cut-sum}
 use Rattle.flows.specs.Consistency.{Inconsistent, Consistent, Conflict, Cut-sum}
 use Rattle.flows.specs.declared.class.Class.{Class}
 use Rattle.flows.specs.declared.class.Class.the-variants.{Observable, Unobservable, Redundant, JustMeasured}
+use Rattle.flows.specs.declared.fault.QuestionFault.{QuestionFault}
 use Rattle.flows.specs.Drawings.{Drawing, In-use, Within}
 use Rattle.flows.specs.Flows.{net, Balanced, Zero-on, Possible, Possible-but, Some-flow, read-set}
 use Rattle.flows.specs.Parts.{Unread, Linked}
 use Rattle.flows.specs.Paths.{Closed-path}
+use Rattle.flows.specs.Questions.{meant, Surveys, Values, Disputes}
+use Rattle.flows.specs.Refusals.{accepted}
 
 abbrev pub Balanced-flows-have-no-net : Group → Type 0
 Balanced-flows-have-no-net G = (D : Drawing) → Within D → (f : ℕ → G .Element) → Balanced G D f → (C : ℕ → Bool) → net G D C f ≡ G .zero
@@ -79,3 +90,23 @@ On-a-path-exactly-if-linked = (D : Drawing) (R : ℕ → Bool) (n : ℕ) → Unr
 
 abbrev pub Exactly-one-class : Type 0
 Exactly-one-class = (D : Drawing) → Within D → (R : ℕ → Bool) (n : ℕ) → (c : Class) × Is D R c n × ((d : Class) → Is D R d n → d ≡ c)
+
+pub record Decided (G : Group) (s : Comparison G) (D : Drawing) (t : ℕ → Option (G .Element)) (m : ℕ) : Type 0 where
+  pub class : (n : ℕ) → n < D .size → (c : Class) → Is D (read-set t) c n ↔ (c ≡ class D (read-set t) m n)
+  pub consistency : Decides (consistent G s D t m) (Consistent G D t)
+  pub cut-sums : (n : ℕ) → In-use D n → (x : G .Element) → Cut-sum G D t n x ↔ (x ≡ cut-sum G s D t m n)
+
+abbrev pub Decisions-are-right : Group → Type 0
+Decisions-are-right G = (s : Comparison G) (D : Drawing) → Within D → (t : ℕ → Option (G .Element)) (m : ℕ) → Above D m → Decided G s D t m
+
+abbrev pub Survey-answers-agree : {Q : Type 0} → Model Q → Type 0
+Survey-answers-agree m = (D : Drawing) → Within D → (t : ℕ → Option (m .group .Element)) (places : ℕ) (old new other : ℕ → Option ℕ) (r q : Result (ℕ × ℕ × ℕ × ℕ) QuestionFault)
+    → Surveys m D t places old r new → Surveys m D t places old q other → (r ≡ q) × ((k : ℕ) → new k ≡ other k)
+
+abbrev pub Value-answers-agree : {Q : Type 0} → Model Q → Type 0
+Value-answers-agree {Q} m = (D : Drawing) → Within D → (t : ℕ → Option (m .group .Element)) (n : ℕ) (r q : Result (Option Q) QuestionFault)
+    → Values m D t n r → Values m D t n q → accepted (meant m) r ≡ accepted (meant m) q
+
+abbrev pub Dispute-answers-agree : {Q : Type 0} → Model Q → Type 0
+Dispute-answers-agree {Q} m = (D : Drawing) → Within D → (t : ℕ → Option (m .group .Element)) (places : ℕ) (old new other : ℕ → Option ℕ) (r q : Result Q QuestionFault)
+    → Disputes m D t places old r new → Disputes m D t places old q other → (accepted (m .means) r ≡ accepted (m .means) q) × ((w : ℕ) → new w ≡ other w)

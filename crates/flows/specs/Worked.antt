@@ -32,7 +32,8 @@ use Rattle.flows.specs.declared.worked.Worked.the-variants.{OfMasses, OfTotali
 use Rattle.flows.specs.declared.worked.WorkedPlant.{WorkedPlant}
 use Rattle.flows.specs.Drawings.{Drawing, Within}
 use Rattle.flows.specs.Plants.{last-number, drawing, readings-of}
-use Rattle.flows.specs.Questions.{unit-places, Surveys, Values, Rivals, Disputes}
+use Rattle.flows.specs.Refusals.{accepted}
+use Rattle.flows.specs.Questions.{meant, unit-places, Surveys, Values, Rivals, Disputes}
 
 abbrev pub at-number : {X : Type 0} → X → List X → ℕ → X
 at-number d xs zero = d
@@ -42,15 +43,6 @@ abbrev pub place : {X : Type 0} → List X → ℕ → Option X
 place [] k = None
 place (x ∷ xs) zero = Some x
 place (x ∷ xs) (suc k) = place xs k
-
-abbrev pub meant : {Q : Type 0} (m : Model Q) → Option Q → Option (m .group .Element)
-meant m (Some a) = Some (m .means a)
-meant m None = None
-
--- What f makes of an accepted answer.
-abbrev pub accepted : {T U F : Type 0} → (T → U) → Result T F → Result U F
-accepted f (Ok x) = Ok (f x)
-accepted f (Err e) = Err e
 
 abbrev pub plan : {Q : Type 0} → WorkedPlant Q → Drawing
 plan row = drawing (row .units) (at-number None (row .ends))

@@ -23,7 +23,7 @@ use Rattle.quantity.specs.Model.{Model}
 use Rattle.quantity.specs.Totalisers.{modulus, totaliser-model}
 use Rattle.flows.specs.Classes.{byte}
 use Rattle.flows.specs.Comparisons.{Comparison, compare-residues}
-use Rattle.flows.specs.Decisions.{class, net-below, part, even, all-even, consistent, cut-sum}
+use Rattle.flows.specs.Decisions.{class, part, even, all-even, consistent, cut-sum}
 use Rattle.flows.specs.declared.class.Class.{Class}
 use Rattle.flows.specs.declared.class.Class.the-variants.{OutOfUse, Observable, Unobservable, Redundant, JustMeasured}
 use Rattle.flows.specs.declared.ends.Ends.{Ends}
@@ -36,11 +36,11 @@ use Rattle.flows.specs.declared.worked.Worked.{Worked}
 use Rattle.flows.specs.declared.worked.Worked.the-variants.{OfMasses, OfTotalisers}
 use Rattle.flows.specs.declared.worked.WorkedPlant.{WorkedPlant}
 use Rattle.flows.specs.Drawings.{Drawing}
-use Rattle.flows.specs.Flows.{total-below, read-set, readings}
+use Rattle.flows.specs.Flows.{total-below, read-set, readings, net-below}
 use Rattle.flows.specs.Plants.{last-number}
 use Rattle.flows.specs.Questions.{tally}
 use Rattle.flows.specs.Refusals.{number}
-use Rattle.flows.specs.Worked.{at-number, meant, plan, shown-readings}
+use Rattle.flows.specs.Worked.{at-number, plan, shown-readings}
 
 abbrev pub all-below : (ℕ → Bool) → ℕ → Bool
 all-below p zero = true

@@ -1,7 +1,7 @@
 //! What is true of every drawing, every table of readings and every flow, for every quantity.
 //!
 //! The functions do nothing. Each has a theorem as its contract, so that the crate is proved only if the theorem is.
-ghost use Rattle.flows.specs.Theorems.{Balanced-flows-have-no-net, Some-flow-exactly-if-consistent, Some-flow-exactly-if-not-inconsistent, Conflict-excludes-flows, Conflict-exactly-if-no-flow, Zero-or-anything, Observable-carries-its-cut-sum, Redundant-carries-one-amount, Unobservable-carries-anything, Just-measured-carries-anything, On-a-path-exactly-if-linked, Exactly-one-class};
+ghost use Rattle.flows.specs.Theorems.{Balanced-flows-have-no-net, Some-flow-exactly-if-consistent, Some-flow-exactly-if-not-inconsistent, Conflict-excludes-flows, Conflict-exactly-if-no-flow, Zero-or-anything, Observable-carries-its-cut-sum, Redundant-carries-one-amount, Unobservable-carries-anything, Just-measured-carries-anything, On-a-path-exactly-if-linked, Decisions-are-right, Survey-answers-agree, Value-answers-agree, Dispute-answers-agree, Exactly-one-class};
 use quantity::Quantity;
 
 /// A balanced flow has net zero over every set of places, with or without the surroundings.
@@ -58,6 +58,26 @@ pub fn just_measured_carries_anything<Q: Quantity>()
 /// An unread stream is on a closed path of unread streams exactly if unread streams other than itself join its ends.
 pub fn on_a_path_exactly_if_linked()
     ensures { λ _. ⌜ On-a-path-exactly-if-linked ⌝ }
+{}
+
+/// The class, the consistency and the cut sum that `specs/Decisions.antt` computes are those of the definitions.
+pub fn decisions_are_right<Q: Quantity>()
+    ensures { λ _. ⌜ Decisions-are-right (model .group) ⌝ }
+{}
+
+/// The definitions leave survey one answer and one table of classes.
+pub fn survey_answers_agree<Q: Quantity>()
+    ensures { λ _. ⌜ Survey-answers-agree model ⌝ }
+{}
+
+/// The definitions leave value one answer, by what it means.
+pub fn value_answers_agree<Q: Quantity>()
+    ensures { λ _. ⌜ Value-answers-agree model ⌝ }
+{}
+
+/// The definitions leave dispute one answer, by what it means, and one table of marks.
+pub fn dispute_answers_agree<Q: Quantity>()
+    ensures { λ _. ⌜ Dispute-answers-agree model ⌝ }
 {}
 
 /// Every stream number has exactly one class.
