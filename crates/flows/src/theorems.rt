@@ -1,6 +1,9 @@
 //! What is true of every drawing, every table of readings and every flow, for every quantity.
 //!
 //! The functions do nothing. Each has a theorem as its contract, so that the crate is proved only if the theorem is.
+ghost use Rattle.quantity.specs.Masses.{mass-model, components-model};
+ghost use Rattle.quantity.specs.Totalisers.{totaliser-model};
+ghost use Rattle.flows.specs.Comparisons.{Comparison};
 ghost use Rattle.flows.specs.Theorems.{Balanced-flows-have-no-net, Some-flow-exactly-if-consistent, Some-flow-exactly-if-not-inconsistent, Conflict-excludes-flows, Conflict-exactly-if-no-flow, Zero-or-anything, Observable-carries-its-cut-sum, Redundant-carries-one-amount, Unobservable-carries-anything, Just-measured-carries-anything, On-a-path-exactly-if-linked, Decisions-are-right, Survey-answers-agree, Value-answers-agree, Dispute-answers-agree, Exactly-one-class};
 use quantity::Quantity;
 
@@ -27,6 +30,11 @@ pub fn conflict_excludes_flows<Q: Quantity>()
 /// Where amounts can be told apart: there is such a set exactly if no balanced flow agrees.
 pub fn conflict_exactly_if_no_flow<Q: Quantity>()
     ensures { λ _. ⌜ Conflict-exactly-if-no-flow (model .group) ⌝ }
+{}
+
+/// What masses, totalisers and components mean can be told apart by a test, as the theorems that ask for one want.
+pub fn amounts_can_be_told_apart()
+    ensures { λ _. ⌜ Comparison (mass-model .group) × Comparison (totaliser-model .group) × Comparison (components-model .group) ⌝ }
 {}
 
 /// Of the balanced flows that are zero on a set of streams: all are zero at a stream outside it, or it may carry anything.

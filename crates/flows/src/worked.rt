@@ -116,8 +116,8 @@ fn twin() -> Worked
                 first: [Mass(100), Mass(100), Mass(0), Mass(100), Mass(100)],
                 second: [Mass(100), Mass(30), Mass(70), Mass(100), Mass(100)],
             }),
-            Err(Determined),
-            Err(Determined),
+            Err(Determined), // stream 4 is observable
+            Err(Determined), // stream 5 is redundant
         ],
         dispute: Err(Consistent),
     }))
