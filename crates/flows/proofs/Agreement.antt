@@ -5,7 +5,7 @@ use mathlib.Core.Path.{_≡_, refl, sym, ap, ap₂, _∙_, subst}
 use native.Mathlib.Omega.{arith}
 use Prim.Native.Nat.{ℕ, suc, _≤_, _<_}
 use lib.Dec.{eqb}
-use Rattle.std.proofs.shelf.Tests.{cases-bool, cases-lt}
+use Rattle.std.proofs.shelf.Tests.{cases-bool, cases-lt, not-true, not-from-false}
 use Rattle.std.specs.declared.option.Option.{Option}
 use Rattle.std.specs.declared.option.Option.the-variants.{None, Some}
 use Rattle.std.specs.declared.result.Result.{Result}
@@ -15,7 +15,7 @@ use Rattle.quantity.specs.Group.{Group}
 use Rattle.quantity.specs.Model.{Model}
 use Rattle.flows.specs.Classes.{Is, byte}
 use Rattle.flows.specs.Comparisons.{Comparison}
-use Rattle.flows.specs.Consistency.{Cut-sum, Uneven}
+use Rattle.flows.specs.Consistency.{Cut-sum, In-dispute}
 use Rattle.flows.specs.Decisions.{Above, part, consistent, cut-sum}
 use Rattle.flows.specs.declared.class.Class.{Class}
 use Rattle.flows.specs.declared.class.Class.the-variants.{Observable, Unobservable}
@@ -25,16 +25,16 @@ use Rattle.flows.specs.Drawings.{Drawing, In-use, Within}
 use Rattle.flows.specs.Flows.{net, read-set, readings}
 use Rattle.flows.specs.Parts.{Unread, Others, Joined, Part}
 use Rattle.flows.specs.Plants.{last-number}
-use Rattle.flows.specs.Questions.{unit-places, meant, holds, count, Surveyed, Valued, by-reading, by-cut-sum, no-amount, Disputed, Values, Disputes, Surveys, Dispute-fits, Value-fits, Survey-fits}
+use Rattle.flows.specs.Questions.{unit-places, meant, holds, count, Surveyed, Valued, by-reading, by-cut-sum, no-amount, Rivalled, Disputed}
 use Rattle.flows.specs.Refusals.{number, Answer, accepted}
-use Rattle.flows.specs.Theorems.{Decided, Decisions-are-right, Survey-answers-agree, Value-answers-agree, Dispute-answers-agree}
+use Rattle.flows.specs.Theorems.{Decisions-are-right, Survey-answers-agree, Value-answers-agree, Rival-answers-agree, Dispute-answers-agree}
 use Rattle.flows.proofs.Cuts.{ends-within}
-use Rattle.flows.proofs.Decisions.{above-size, part-is, class-is, class-only}
+use Rattle.flows.proofs.Decisions.{above-size, fails, part-is, class-is, class-only}
 use Rattle.flows.proofs.Evenness.{part-net, consistent-if, inconsistent-if, not-both}
 use Rattle.flows.proofs.Groups.{minus-difference}
 use Rattle.flows.proofs.Joins.{joined-within}
 use Rattle.flows.proofs.Results.{cut-sum-is, exactly-one-class}
-use Rattle.flows.proofs.Tallies.{tally-same, count-is}
+use Rattle.flows.proofs.Tallies.{how-many-same, count-is}
 
 -- a stream has one cut sum
 pub cut-sum-only : (G : Group) (D : Drawing) → Within D → (t : ℕ → Option (G .Element)) (n : ℕ) (x y : G .Element) → Cut-sum G D t n x → Cut-sum G D t n y → x ≡ y
@@ -45,15 +45,19 @@ cut-sum-only G D w t n x y a b =
     ∙ minus-difference G _ _ ∙ sym (b .sum)
 
 pub decisions-are-right : (G : Group) → Decisions-are-right G
-decisions-are-right G s D w t m above = record {
+decisions-are-right G D w t m above = record {
   class = λ n known c. (class-only D w (read-set t) m above n known c, λ e. subst (λ c. Is D (read-set t) c n) (sym e) (class-is D w (read-set t) m above n known));
-  consistency = (
+  consistent = λ s. (
     consistent-if G D w t s m above,
     λ h. ⊎-elim (λ e. e) (λ e. absurd (not-both G D w t h (inconsistent-if G D w t s m above e))) (cases-bool (consistent G s D t m)),
   );
-  cut-sums = λ n us x. (
-    λ c. cut-sum-only G D w t n x (cut-sum G s D t m n) c (cut-sum-is G D t s m above w n us (cut-sum G s D t m n) refl),
-    λ e. cut-sum-is G D t s m above w n us x e,
+  inconsistent = λ s. (
+    λ e. inconsistent-if G D w t s m above (not-true (consistent G s D t m) e),
+    λ i. not-from-false (consistent G s D t m) (fails (consistent G s D t m) (λ e. not-both G D w t (consistent-if G D w t s m above e) i)),
+  );
+  cut-sum = λ n us x. (
+    λ c. cut-sum-only G D w t n x (cut-sum G D t m n) c (cut-sum-is G D t m above w n us (cut-sum G D t m n) refl),
+    λ e. cut-sum-is G D t m above w n us x e,
   );
 }
 
@@ -93,7 +97,7 @@ module _ {Q : Type 0} (m : Model Q) (D : Drawing) (w : Within D) (t : ℕ → Op
   )
     where
       alike : (c : ℕ) → count c new last-number ≡ count c other last-number
-      alike c = count-is c new last-number ∙ tally-same last-number _ _ (λ k _. ap (λ o. holds o c) (surveyed-table old new other a b x y k)) ∙ sym (count-is c other last-number)
+      alike c = count-is c new last-number ∙ how-many-same last-number _ _ (λ k _. ap (λ o. holds o c) (surveyed-table old new other a b x y k)) ∙ sym (count-is c other last-number)
 
   valued-same : (n : ℕ) (a b : Option Q) → Valued m D t n a → Valued m D t n b → meant m a ≡ meant m b
   valued-same n (Some a) (Some b) (by-reading _ e) (by-reading _ f) = sym e ∙ f
@@ -120,13 +124,13 @@ module _ {Q : Type 0} (m : Model Q) (D : Drawing) (w : Within D) (t : ℕ → Op
 
   module _ (old new other : ℕ → Option ℕ) (a b : Q) (x : Disputed m D t old a new) (y : Disputed m D t old b other) where
     one-unit : x .lowest ≡ y .lowest
-    one-unit = let p = x .none-lower (y .lowest) (y .part) (y .uneven) in let q = y .none-lower (x .lowest) (x .part) (x .uneven) in omega arith
+    one-unit = let p = x .none-lower (y .lowest) (y .part) (y .in-dispute) in let q = y .none-lower (x .lowest) (x .part) (x .in-dispute) in omega arith
 
     disputed-net : m .means a ≡ m .means b
     disputed-net =
         x .net
         ∙ part-net (m .group) D w (Unread D (read-set t)) (readings (m .group) t) (y .lowest) (x .part) (y .part)
-        (subst (λ v. Part D (Unread D (read-set t)) v (x .part)) one-unit (x .uneven .part)) (y .uneven .part)
+        (subst (λ v. Part D (Unread D (read-set t)) v (x .part)) one-unit (x .in-dispute .part)) (y .in-dispute .part)
         ∙ sym (y .net)
 
     disputed-table : (k : ℕ) → new k ≡ other k
@@ -134,7 +138,7 @@ module _ {Q : Type 0} (m : Model Q) (D : Drawing) (w : Within D) (t : ℕ → Op
         (λ (lt : k < unit-places). ⊎-elim
         (λ j. x .marked k lt j ∙ sym (y .marked k lt (subst (λ v. Joined D (Unread D (read-set t)) v k) one-unit j)))
         (λ off. x .unmarked k lt off ∙ sym (y .unmarked k lt (λ j. off (subst (λ v. Joined D (Unread D (read-set t)) v k) (sym one-unit) j))))
-        (joined-or-not (x .lowest) k (x .uneven .unit)))
+        (joined-or-not (x .lowest) k (x .in-dispute .unit)))
         (λ (past : unit-places ≤ k). x .kept k past ∙ sym (y .kept k past))
         (cases-lt k unit-places)
 
@@ -149,6 +153,16 @@ value-answers-agree m D w t n (Ok a) (Ok b) x y = ap Ok (valued-same m D w t n a
 value-answers-agree m D w t n (Ok a) (Err g) x y = absurd (x .0 g (y .0))
 value-answers-agree m D w t n (Err f) (Ok b) x y = absurd (y .0 f (x .0))
 value-answers-agree m D w t n (Err f) (Err g) x y = ap Err (one-refusal f g (x .1 g (y .0)) (y .1 f (x .0)))
+
+pub rival-answers-agree : {Q : Type 0} (m : Model Q) → Rival-answers-agree m
+rival-answers-agree m D t n first old-first second old-second (Ok a) (Ok b) new-first new-second other-first other-second x y =
+    (refl, λ k out. (x .1 .first .kept k out ∙ sym (y .1 .first .kept k out), x .1 .second .kept k out ∙ sym (y .1 .second .kept k out)))
+rival-answers-agree m D t n first old-first second old-second (Ok a) (Err g) new-first new-second other-first other-second x y = absurd (x .0 g (y .0))
+rival-answers-agree m D t n first old-first second old-second (Err f) (Ok b) new-first new-second other-first other-second x y = absurd (y .0 f (x .0))
+rival-answers-agree m D t n first old-first second old-second (Err f) (Err g) new-first new-second other-first other-second x y = (
+  ap Err (one-refusal f g (x .1 g (y .0)) (y .1 f (x .0))),
+  λ k _. (ap (λ table. table k) (x .2 .0 ∙ sym (y .2 .0)), ap (λ table. table k) (x .2 .1 ∙ sym (y .2 .1))),
+)
 
 pub dispute-answers-agree : {Q : Type 0} (m : Model Q) → Dispute-answers-agree m
 dispute-answers-agree m D w t places old new other (Ok a) (Ok b) x y = (ap Ok (disputed-net m D w t old new other a b (x .1) (y .1)), disputed-table m D w t old new other a b (x .1) (y .1))

@@ -56,15 +56,15 @@ module _ (G : Group) (D : Drawing) (within : Within D) where
       none true = refl
       none false = refl
 
-      apart : (c p q : Bool) (x : Element) → pick G c (plus (pick G p x) (minus (pick G q x))) ≡ plus (pick G p (pick G c x)) (minus (pick G q (pick G c x)))
-      apart true p q x = refl
-      apart false p q x = sym (ap₂ plus (none p) (ap minus (none q) ∙ minus-zero G) ∙ unit _)
+      no-place-twice : (c p q : Bool) (x : Element) → pick G c (plus (pick G p x) (minus (pick G q x))) ≡ plus (pick G p (pick G c x)) (minus (pick G q (pick G c x)))
+      no-place-twice true p q x = refl
+      no-place-twice false p q x = sym (ap₂ plus (none p) (ap minus (none q) ∙ minus-zero G) ∙ unit _)
 
       at : (b : Bool) (i j : ℕ) (x : Element) → (b ≡ true → i ≤ D .units) → (b ≡ true → j ≤ D .units)
           → pick G b (plus (pick G (C i) x) (minus (pick G (C j) x)))
           ≡ sum G (suc (D .units)) (λ v. pick G (C v) (pick G b (plus (pick G (eqb i v) x) (minus (pick G (eqb j v) x)))))
       at true i j x hi hj = sym (
-          sum-same G (suc (D .units)) _ _ (λ v _. apart (C v) (eqb i v) (eqb j v) x)
+          sum-same G (suc (D .units)) _ _ (λ v _. no-place-twice (C v) (eqb i v) (eqb j v) x)
           ∙ sum-plus G (suc (D .units)) (λ v. pick G (eqb i v) (pick G (C v) x)) (λ v. minus (pick G (eqb j v) (pick G (C v) x)))
           ∙ ap₂ plus
           (sum-one G (suc (D .units)) i (λ v. pick G (C v) x) (omega (arith, hi refl)))

@@ -9,7 +9,7 @@ use Rattle.std.proofs.shelf.Tests.{cases-bool, cases-eq, cases-lt, eq-eqb, ne-e
 use Rattle.std.specs.Orderings.{Decides}
 use Rattle.quantity.specs.Group.{Group}
 use Rattle.flows.specs.Classes.{Ends-in-one-part, Is}
-use Rattle.flows.specs.Decisions.{Above, unread, unread-but, label, linked, class, part, side}
+use Rattle.flows.specs.Decisions.{Above, unread, unread-but, label, linked, class, part, from-side}
 use Rattle.flows.specs.declared.class.Class.{Class}
 use Rattle.flows.specs.declared.class.Class.the-variants.{OutOfUse, Observable, Unobservable, Redundant, JustMeasured}
 use Rattle.flows.specs.Drawings.{Drawing, In-use, Within}
@@ -59,7 +59,7 @@ module _ (D : Drawing) (R : ℕ → Bool) where
       pub part-is : (v : ℕ) → v ≤ D .units → Part D (Unread D R) v (part D R m v)
       part-is v lv = part-map to-unread from-unread (labels-part D (Below m (unread D R)) (label D (unread D R) m) (label-is D (unread D R) within (λ k _. unread-used k) m (above .size)) v lv)
 
-      pub side-is : (n : ℕ) → In-use D n → Part D (Others (Unread D R) n) (D .from n) (side D R m n)
+      pub side-is : (n : ℕ) → In-use D n → Part D (Others (Unread D R) n) (D .from n) (from-side D R m n)
       side-is n us = part-map (to-others n) (from-others n)
           (labels-part D (Below m (unread-but D R n)) (label D (unread-but D R n) m) (label-is D (unread-but D R n) within (λ k _. unread-but-used n k) m (above .size)) (D .from n) (within .from n us))
 
@@ -73,7 +73,7 @@ module _ (D : Drawing) (R : ℕ → Bool) where
           turn : (a b : ℕ) → eqb a b ≡ true → eqb b a ≡ true
           turn a b e = eq-eqb b a (sym (eqb-true a b e))
 
-          p : (side D R m n (D .to n) ≡ true → Linked D R n) × (Linked D R n → side D R m n (D .to n) ≡ true)
+          p : (from-side D R m n (D .to n) ≡ true → Linked D R n) × (Linked D R n → from-side D R m n (D .to n) ≡ true)
           p = side-is n us (D .to n) (within .to n us)
 
   -- a read stream is none of the unread ones

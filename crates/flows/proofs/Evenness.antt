@@ -1,7 +1,7 @@
 -- Parts, and the sets of places that are made of them. Assumes nothing.
 use mathlib.Core.Bool.{Bool, true, false, not, cond, _&&_, _||_, true≢false}
 use mathlib.Core.Logic.{_⊎_, inl, inr, ⊎-elim}
-use mathlib.Core.Path.{_≡_, refl, sym, ap, ap₂, _∙_}
+use mathlib.Core.Path.{_≡_, refl, sym, ap, ap₂, _∙_, subst}
 use native.Mathlib.Omega.{arith}
 use Prim.Native.Nat.{ℕ, zero, suc, _≤_, _<_}
 use lib.Dec.{eqb}
@@ -10,8 +10,8 @@ use Rattle.std.specs.declared.option.Option.{Option}
 use Rattle.std.specs.declared.option.Option.the-variants.{None, Some}
 use Rattle.quantity.specs.Group.{Group}
 use Rattle.flows.specs.Comparisons.{Comparison}
-use Rattle.flows.specs.Consistency.{net-reading, Uneven, Inconsistent, Consistent}
-use Rattle.flows.specs.Decisions.{Above, part, even, all-even, consistent}
+use Rattle.flows.specs.Consistency.{net-reading, In-dispute, Inconsistent, Consistent}
+use Rattle.flows.specs.Decisions.{Above, part, undisputed, all-undisputed, consistent}
 use Rattle.flows.specs.Drawings.{Drawing, In-use, Within}
 use Rattle.flows.specs.Flows.{net, read-set, readings, net-below}
 use Rattle.flows.specs.Labels.{Labels}
@@ -78,7 +78,7 @@ module _ (G : Group) (D : Drawing) (within : Within D) where
                 let p = and-parts (C w) (not (B w)) q in
                 ⊎-elim (λ (e : w ≡ m). absurd (true≢false (sym (own-is m le m le .1 here) ∙ ap B (sym e) ∙ not-true (B w) (p .1)))) (λ d. omega (arith, low w b (p .0))) (cases-eq w m)
 
-    -- where each part is even, so is each set that no unread stream crosses
+    -- where each part without place 0 has net zero, so has each set that no unread stream crosses
     pub sets-even : Consistent G D t → (C : ℕ → Bool) → Uncrossed D (Unread D (read-set t)) C → C 0 ≡ false → net-reading G D t C ≡ G .zero
     sets-even h C c o = strip h (suc (D .units)) C c o (λ w b _. omega arith)
 
@@ -92,45 +92,69 @@ module _ (G : Group) (D : Drawing) (within : Within D) where
 
     -- the computed test
     module _ (s : Comparison G) (m : ℕ) (above : Above D m) where
-      pub even-part : (v : ℕ) → v ≤ D .units → even G s D t m v ≡ true → (C : ℕ → Bool) → Part D (Unread D (read-set t)) v C → C 0 ≡ false → net-reading G D t C ≡ G .zero
-      even-part v lv e C p o =
+      pub undisputed-part : (v : ℕ) → v ≤ D .units → undisputed G s D t m v ≡ true → (C : ℕ → Bool) → Part D (Unread D (read-set t)) v C → C 0 ≡ false → net-reading G D t C ≡ G .zero
+      undisputed-part v lv e C p o =
           let q = part-is D (read-set t) m above within v lv in
           ⊎-elim
           (λ i. absurd (true≢false (sym (p 0 (omega arith) .1 (q 0 (omega arith) .0 i)) ∙ o)))
           (λ i. part-net (Unread D (read-set t)) (readings G t) v C (part D (read-set t) m v) p q ∙ net-short G D m above _ _ ∙ s .decides _ _ .0 i)
           (or-cases (part D (read-set t) m v 0) _ e)
 
-      pub uneven-part : (v : ℕ) → v ≤ D .units → even G s D t m v ≡ false → Uneven G D t v (part D (read-set t) m v)
-      uneven-part v lv e =
+      pub disputed-part : (v : ℕ) → v ≤ D .units → undisputed G s D t m v ≡ false → In-dispute G D t v (part D (read-set t) m v)
+      disputed-part v lv e =
           let parts = or-parts (part D (read-set t) m v 0) _ e in
           record {
             unit = lv;
             part = part-is D (read-set t) m above within v lv;
-            inside = parts .0;
-            uneven = λ q. true≢false (sym (s .decides _ _ .1 (sym (net-short G D m above _ _) ∙ q)) ∙ parts .1);
+            without-0 = parts .0;
+            not-zero = λ q. true≢false (sym (s .decides _ _ .1 (sym (net-short G D m above _ _) ∙ q)) ∙ parts .1);
           }
 
-      pub all-even-each : (n : ℕ) → all-even G s D t m n ≡ true → (v : ℕ) → v < n → even G s D t m v ≡ true
-      all-even-each zero h v lt = absurd (omega arith)
-      all-even-each (suc n) h v lt =
-          let parts = and-parts (all-even G s D t m n) (even G s D t m n) h in
-          ⊎-elim (λ (q : v ≡ n). ap (even G s D t m) q ∙ parts .1) (λ d. all-even-each n (parts .0) v (omega arith)) (cases-eq v n)
+      pub all-undisputed-each : (n : ℕ) → all-undisputed G s D t m n ≡ true → (v : ℕ) → v < n → undisputed G s D t m v ≡ true
+      all-undisputed-each zero h v lt = absurd (omega arith)
+      all-undisputed-each (suc n) h v lt =
+          let parts = and-parts (all-undisputed G s D t m n) (undisputed G s D t m n) h in
+          ⊎-elim (λ (q : v ≡ n). ap (undisputed G s D t m) q ∙ parts .1) (λ d. all-undisputed-each n (parts .0) v (omega arith)) (cases-eq v n)
 
-      all-even-not : (n : ℕ) → all-even G s D t m n ≡ false → (v : ℕ) × (v < n) × (even G s D t m v ≡ false)
-      all-even-not zero h = absurd (true≢false h)
-      all-even-not (suc n) h = ⊎-elim
-          (λ i. let r = all-even-not n i in (r .0, let l = r .1 in omega arith, r .2))
+      all-undisputed-not : (n : ℕ) → all-undisputed G s D t m n ≡ false → (v : ℕ) × (v < n) × (undisputed G s D t m v ≡ false)
+      all-undisputed-not zero h = absurd (true≢false h)
+      all-undisputed-not (suc n) h = ⊎-elim
+          (λ i. let r = all-undisputed-not n i in (r .0, let l = r .1 in omega arith, r .2))
           (λ i. (n, omega arith, i))
-          (and-cases (all-even G s D t m n) (even G s D t m n) h)
+          (and-cases (all-undisputed G s D t m n) (undisputed G s D t m n) h)
 
       pub consistent-if : consistent G s D t m ≡ true → Consistent G D t
-      consistent-if h v lv C p o = even-part v lv (all-even-each (suc (D .units)) h v (omega arith)) C p o
+      consistent-if h v lv C p o = undisputed-part v lv (all-undisputed-each (suc (D .units)) h v (omega arith)) C p o
 
       pub inconsistent-if : consistent G s D t m ≡ false → Inconsistent G D t
-      inconsistent-if h = let r = all-even-not (suc (D .units)) h in let l = r .1 in let lv : r .0 ≤ D .units = omega arith in (r .0, part D (read-set t) m (r .0), uneven-part (r .0) lv (r .2))
+      inconsistent-if h = let r = all-undisputed-not (suc (D .units)) h in let l = r .1 in let lv : r .0 ≤ D .units = omega arith in (r .0, part D (read-set t) m (r .0), disputed-part (r .0) lv (r .2))
 
     pub not-both : Consistent G D t → ¬ Inconsistent G D t
-    not-both h i = i .2 .uneven (h (i .0) (i .2 .unit) (i .1) (i .2 .part) (i .2 .inside))
+    not-both h i = i .2 .not-zero (h (i .0) (i .2 .unit) (i .1) (i .2 .part) (i .2 .without-0))
+
+    -- without a test the parts cannot be told apart, yet it cannot be that neither holds
+    never-neither : (n : ℕ) → n ≤ suc (D .units) → ¬ ¬ (((v : ℕ) → v < n → net-reading G D t (own v) ≡ G .zero ⊎ (own v 0 ≡ true)) ⊎ Inconsistent G D t)
+    never-neither zero le no-case = no-case (inl (λ v lt. absurd (omega arith)))
+    never-neither (suc n) le no-case = never-neither n (omega arith) (λ h. ⊎-elim (λ each. at each) (λ i. no-case (inr i)) h)
+      where
+        more : ((v : ℕ) → v < n → net-reading G D t (own v) ≡ G .zero ⊎ (own v 0 ≡ true)) → (net-reading G D t (own n) ≡ G .zero ⊎ (own n 0 ≡ true))
+            → (v : ℕ) → v < suc n → net-reading G D t (own v) ≡ G .zero ⊎ (own v 0 ≡ true)
+        more each last v lt = ⊎-elim (λ (q : v ≡ n). subst (λ u. net-reading G D t (own u) ≡ G .zero ⊎ (own u 0 ≡ true)) (sym q) last) (λ d. each v (omega arith)) (cases-eq v n)
+
+        at : ((v : ℕ) → v < n → net-reading G D t (own v) ≡ G .zero ⊎ (own v 0 ≡ true)) → ⊥
+        at each = ⊎-elim
+            (λ i. no-case (inl (more each (inr i))))
+            (λ o. no-case (inr (n, own n, record { unit = omega arith; part = own-is n (omega arith); without-0 = o; not-zero = λ e. no-case (inl (more each (inl e))) })))
+            (cases-bool (own n 0))
+
+    pub not-neither : ¬ Consistent G D t → ¬ ¬ Inconsistent G D t
+    not-neither no-flow no-part = never-neither (suc (D .units)) (omega arith) (λ h. ⊎-elim (λ each. no-flow (whole each)) no-part h)
+      where
+        whole : ((v : ℕ) → v < suc (D .units) → net-reading G D t (own v) ≡ G .zero ⊎ (own v 0 ≡ true)) → Consistent G D t
+        whole each v lv C p o = ⊎-elim
+            (λ e. part-net (Unread D (read-set t)) (readings G t) v C (own v) p (own-is v lv) ∙ e)
+            (λ i. absurd (true≢false (sym (p 0 (omega arith) .1 (own-is v lv 0 (omega arith) .0 i)) ∙ o)))
+            (each v (omega arith))
 
     pub one-of-both : Comparison G → Consistent G D t ⊎ Inconsistent G D t
     one-of-both s = ⊎-elim (λ e. inl (consistent-if s (D .size) (above-size D) e)) (λ e. inr (inconsistent-if s (D .size) (above-size D) e)) (cases-bool (consistent G s D t (D .size)))

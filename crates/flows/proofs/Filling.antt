@@ -14,7 +14,7 @@ use Rattle.quantity.specs.Sums.{sum}
 use Rattle.quantity.proofs.GroupSums.{sum-same}
 use Rattle.flows.specs.Decisions.{label}
 use Rattle.flows.specs.Drawings.{Drawing, In-use, Within}
-use Rattle.flows.specs.Filling.{Fillable, Side}
+use Rattle.flows.specs.Filling.{Fillable, Fill-side}
 use Rattle.flows.specs.Flows.{pick, net, Balanced}
 use Rattle.flows.specs.Labels.{Below, Labels}
 use Rattle.flows.specs.Parts.{Joined, Uncrossed}
@@ -26,7 +26,7 @@ use Rattle.flows.proofs.Nets.{crossing, net-is, net-plus, net-same, net-from-n
 use Rattle.flows.proofs.Sums.{sum-one}
 
 -- labels by the streams of S give the side of the from place of n
-pub labels-side : (D : Drawing) (S : ℕ → Type 0) → Within D → (n : ℕ) (label : ℕ → ℕ) → D .from n ≤ D .units → Labels D S label → Side D S n (λ w. eqb (label w) (label (D .from n)))
+pub labels-side : (D : Drawing) (S : ℕ → Type 0) → Within D → (n : ℕ) (label : ℕ → ℕ) → D .from n ≤ D .units → Labels D S label → Fill-side D S n (λ w. eqb (label w) (label (D .from n)))
 labels-side D S within n label fl h = record {
   self = eq-eqb (label (D .from n)) (label (D .from n)) refl;
   uncrossed = λ k b. ap (λ x. eqb x (label (D .from n))) (h .alike k b);
@@ -77,7 +77,7 @@ module _ (G : Group) (D : Drawing) where
 
   -- S is T, and n besides
   module _ (S T : ℕ → Type 0) (n : ℕ) (but : (k : ℕ) → S k → T k ⊎ (k ≡ n)) (us : In-use D n) where
-    bump-with : (r : ℕ → Element) → Fillable G D S r → (B : ℕ → Bool) → Side D T n B
+    bump-with : (r : ℕ → Element) → Fillable G D S r → (B : ℕ → Bool) → Fill-side D T n B
         → (C : ℕ → Bool) → Uncrossed D T C → C (D .from n) ≡ true → net G D C (bump r n (minus (net G D B r))) ≡ G .zero
     bump-with r h B side C c i = net-bump C r n x us ∙ at (C (D .to n)) refl
       where
@@ -103,14 +103,14 @@ module _ (G : Group) (D : Drawing) where
             ∙ ap (λ s. plus s (net G D B r)) rest ∙ unit _ in
             ap₂ plus same (ap₂ (λ a b. plus (pick G a x) (minus (pick G b x))) i q ∙ ap (plus x) (minus-zero G) ∙ unit-r G x) ∙ inverse (net G D B r)
 
-    fill-bump : (r : ℕ → Element) → Fillable G D S r → (B : ℕ → Bool) → Side D T n B → Fillable G D T (bump r n (minus (net G D B r)))
+    fill-bump : (r : ℕ → Element) → Fillable G D S r → (B : ℕ → Bool) → Fill-side D T n B → Fillable G D T (bump r n (minus (net G D B r)))
     fill-bump r h B side C c = ⊎-elim
         (λ i. bump-with r h B side C c i)
         (λ o. net-from-not G D C _ (bump-with r h B side (λ w. not (C w)) (λ k b. ap not (c k b)) (not-from-false (C (D .from n)) o)))
         (cases-bool (C (D .from n)))
 
-    -- n is given the amount that makes the side of its from place even
-    pub fill-next : (r filled : ℕ → Element) (B : ℕ → Bool) → Side D T n B → r n ≡ G .zero → filled n ≡ minus (net G D B r)
+    -- n is given the amount that makes the net of the side of its from place zero
+    pub fill-next : (r filled : ℕ → Element) (B : ℕ → Bool) → Fill-side D T n B → r n ≡ G .zero → filled n ≡ minus (net G D B r)
         → ((k : ℕ) → In-use D k → ¬ (n ≡ k) → filled k ≡ r k) → Fillable G D S r → Fillable G D T filled
     fill-next r filled B side free new old h C c = net-same G D C filled (bump r n x) (λ k u. inl (⊎-elim
         (λ (q : n ≡ k). ap filled (sym q) ∙ new ∙ sym (bump-same r n x k q free))
@@ -173,7 +173,7 @@ module _ (G : Group) (D : Drawing) (within : Within D) (e : ℕ → Bool) (used 
       at false o skip take = skip (fill-skip G D (Below (suc n) e) (Below n e) (below o) r h)
       at true i skip take =
           let us : In-use D n = (omega arith, used n (omega arith) i) in
-          let side : Side D (Below n e) n B = labels-side D (Below n e) within n (label D e n) (within .from n us) (label-is D e within used n (omega arith)) in
+          let side : Fill-side D (Below n e) n B = labels-side D (Below n e) within n (label D e n) (within .from n us) (label-is D e within used n (omega arith)) in
           let s = take (fill-bump G D (Below (suc n) e) (Below n e) n (below-or-last n) us r h B side) in
           (s .0, s .1, λ k o. s .2 k o ∙ bump-other G D r n x k (λ p. true≢false (sym i ∙ ap e p ∙ o)))
 

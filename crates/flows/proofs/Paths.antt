@@ -18,10 +18,10 @@ record Simple (D : Drawing) (S : ℕ → Type 0) (a c : ℕ) : Type 0 where
   streams : List ℕ
   met : List ℕ
   route : Route D S a c streams met
-  once : Distinct streams
-  apart : Distinct (a ∷ met)
+  no-stream-twice : Distinct streams
+  no-place-twice : Distinct (a ∷ met)
 
--- a way by stream n, once
+-- a way by stream n that uses it once
 record Around (D : Drawing) (S : ℕ → Type 0) (n a c : ℕ) : Type 0 where
   x : ℕ
   y : ℕ
@@ -47,18 +47,18 @@ module _ {D : Drawing} {S : ℕ → Type 0} where
 
   -- the rest of a way from a unit met on it
   cut : {b c : ℕ} {ks vs : List ℕ} (a : ℕ) → Route D S b c ks vs → Distinct ks → Distinct (b ∷ vs) → Member a (b ∷ vs) → Simple D S a c
-  cut {c = c} a r o d (inl q) = subst (λ x. Simple D S x c) (sym q) (record { streams = _; met = _; route = r; once = o; apart = d })
+  cut {c = c} a r o d (inl q) = subst (λ x. Simple D S x c) (sym q) (record { streams = _; met = _; route = r; no-stream-twice = o; no-place-twice = d })
   cut a stop o d (inr m) = absurd m
   cut a (next k s e r) o d (inr m) = cut a r (o .1) (d .1) m
 
   erase : {a c : ℕ} → Joined D S a c → Simple D S a c
-  erase here = record { streams = []; met = []; route = stop; once = tt; apart = ((λ m. m), tt) }
+  erase here = record { streams = []; met = []; route = stop; no-stream-twice = tt; no-place-twice = ((λ m. m), tt) }
   erase {a} {c} (along {b = b} k s e j) = at (erase j)
     where
       at : Simple D S b c → Simple D S a c
       at p = ⊎-elim
-          (λ m. cut a (p .route) (p .once) (p .apart) m)
-          (λ out. record { streams = k ∷ p .streams; met = b ∷ p .met; route = next k s e (p .route); once = ((λ m. out (end-met k e (p .route) m)), p .once); apart = (out, p .apart) })
+          (λ m. cut a (p .route) (p .no-stream-twice) (p .no-place-twice) m)
+          (λ out. record { streams = k ∷ p .streams; met = b ∷ p .met; route = next k s e (p .route); no-stream-twice = ((λ m. out (end-met k e (p .route) m)), p .no-stream-twice); no-place-twice = (out, p .no-place-twice) })
           (member-or a (b ∷ p .met))
 
   -- a way that does not use n
@@ -74,7 +74,7 @@ module _ {D : Drawing} {S : ℕ → Type 0} where
       record { x = p .x; y = p .y; member = p .member; before = along k (s, λ q. d .0 (subst (λ i. Member i ks) (sym q) m)) e (p .before); at-n = p .at-n; after = p .after }
 
   pub joined-from-closed-path : (n : ℕ) → Closed-path D S n → S n × Joined D (Others S n) (D .from n) (D .to n)
-  joined-from-closed-path n c = at (around n (c .route) (c .once) (c .through))
+  joined-from-closed-path n c = at (around n (c .route) (c .no-stream-twice) (c .through))
     where
       turn : (x y : ℕ) → Between D n x y → Joined D (Others S n) y x → Joined D (Others S n) (D .from n) (D .to n)
       turn x y (inl p) j = subst (λ b. Joined D (Others S n) (D .from n) b) (sym (p .1)) (subst (λ a. Joined D (Others S n) a y) (sym (p .0)) (joined-sym j))
@@ -92,4 +92,4 @@ pub closed-path-from-joined : {D : Drawing} {S : ℕ → Type 0} (n : ℕ) → S
 closed-path-from-joined {D} {S} n s j =
     let p = erase (joined-sym j) in
     let w = widen n (p .route) in
-    record { start = D .from n; streams = n ∷ p .streams; met = D .to n ∷ p .met; route = next n s (inl (refl, refl)) (w .0); once = (w .1, p .once); apart = p .apart; through = inl refl }
+    record { start = D .from n; streams = n ∷ p .streams; met = D .to n ∷ p .met; route = next n s (inl (refl, refl)) (w .0); no-stream-twice = (w .1, p .no-stream-twice); no-place-twice = p .no-place-twice; through = inl refl }

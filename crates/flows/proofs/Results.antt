@@ -1,32 +1,31 @@
 -- The theorems about flows. Assumes nothing.
 use mathlib.Core.Bool.{Bool, true, false, not, cond, _&&_, true≢false}
 use mathlib.Core.Logic.{_⊎_, inl, inr, ⊎-elim}
-use mathlib.Core.Path.{_≡_, refl, sym, ap, ap₂, _∙_}
+use mathlib.Core.Path.{_≡_, refl, sym, ap, ap₂, _∙_, subst}
 use native.Mathlib.Omega.{arith}
 use Prim.Native.Nat.{ℕ, _≤_, _<_}
 use lib.Dec.{eqb}
-use Rattle.std.proofs.shelf.Tests.{cases-bool, cases-lt, eq-eqb, ne-eqb, and-parts, and-from, and-cases, and-left, and-right, not-true, not-from-true, not-from-false}
+use Rattle.std.proofs.shelf.Tests.{cases-bool, cases-eq, cases-lt, eq-eqb, ne-eqb, and-parts, and-from, and-cases, and-left, and-right, not-true, not-from-true, not-from-false}
 use Rattle.std.specs.declared.option.Option.{Option}
 use Rattle.std.specs.declared.option.Option.the-variants.{None, Some}
 use Rattle.std.specs.Options.{isSome}
 use Rattle.quantity.specs.Group.{Group}
 use Rattle.flows.specs.Classes.{Is}
 use Rattle.flows.specs.Consistency.{net-reading, Inconsistent, Consistent, Conflict, Cut-sum}
-use Rattle.flows.specs.Comparisons.{Comparison}
-use Rattle.flows.specs.Decisions.{Above, unread, side, class, cut-sum}
+use Rattle.flows.specs.Decisions.{Above, unread, linked, from-side, class, cut-sum}
 use Rattle.flows.specs.declared.class.Class.{Class}
 use Rattle.flows.specs.declared.class.Class.the-variants.{OutOfUse, Observable, Unobservable, Redundant, JustMeasured}
 use Rattle.flows.specs.Drawings.{Drawing, In-use, Within}
 use Rattle.flows.specs.Flows.{net, leaving, entering, Balanced, Agrees, Agrees-but, Possible, Possible-but, Some-flow, read-set, amount, readings, Zero-on}
-use Rattle.flows.specs.Parts.{Unread, Part, Uncrossed, Linked}
-use Rattle.flows.specs.Theorems.{Balanced-flows-have-no-net, Some-flow-exactly-if-consistent, Some-flow-exactly-if-not-inconsistent, Conflict-excludes-flows, Conflict-exactly-if-no-flow, Zero-or-anything, Observable-carries-its-cut-sum, Redundant-carries-one-amount, Unobservable-carries-anything, Just-measured-carries-anything, On-a-path-exactly-if-linked, Exactly-one-class}
+use Rattle.flows.specs.Parts.{Unread, Others, Joined, here, along, Part, Uncrossed, Linked}
+use Rattle.flows.specs.Theorems.{Balanced-flows-have-no-net, Some-flow-exactly-if-consistent, Some-conflict, Conflict-excludes-flows, Flow-or-conflict, Conflict-exactly-if-no-flow, Zero-or-anything, Two-sides, Observable-carries-its-cut-sum, Redundant-carries-one-amount, Unobservable-carries-anything, Just-measured-carries-anything, On-a-path-exactly-if-linked, Exactly-one-class}
 use Rattle.flows.proofs.Balances.{balanced-net, balanced-plus, balanced-difference}
 use Rattle.flows.proofs.Cuts.{ends-within, side-amount, zero-at, anything-at}
-use Rattle.flows.proofs.Decisions.{above-size, from-unread, unread-used, side-is, class-is, class-only, net-short, linked-from-one-part, linked-from-path, path-from-linked, one-part-from-linked}
-use Rattle.flows.proofs.Evenness.{sets-even, not-both, one-of-both}
+use Rattle.flows.proofs.Decisions.{above-size, from-unread, unread-used, side-is, linked-decides, class-is, class-only, net-short, linked-from-one-part, linked-from-path, path-from-linked, one-part-from-linked}
+use Rattle.flows.proofs.Evenness.{sets-even, not-both, not-neither, one-of-both}
 use Rattle.flows.proofs.Filling.{fill-start, flow-exists}
 use Rattle.flows.proofs.Groups.{inverse-l, made-up, minus-difference, same-from-difference, unit-r}
-use Rattle.flows.proofs.Joins.{joined-map, part-uncrossed}
+use Rattle.flows.proofs.Joins.{joined-map, joined-trans, joined-sym, joined-ends, part-uncrossed}
 use Rattle.flows.proofs.Nets.{net-same}
 
 -- a stream has a reading, or none
@@ -65,12 +64,12 @@ module _ (G : Group) (D : Drawing) (t : ℕ → Option (G .Element)) where
   others-read n k = read-set t k && not (eqb k n)
 
 -- the computed cut sum is the cut sum
-pub cut-sum-is : (G : Group) (D : Drawing) (t : ℕ → Option (G .Element)) (s : Comparison G) (m : ℕ) → Above D m → Within D → (n : ℕ) → In-use D n → (x : G .Element) → x ≡ cut-sum G s D t m n → Cut-sum G D t n x
+pub cut-sum-is : (G : Group) (D : Drawing) (t : ℕ → Option (G .Element)) (m : ℕ) → Above D m → Within D → (n : ℕ) → In-use D n → (x : G .Element) → x ≡ cut-sum G D t m n → Cut-sum G D t n x
 unfolding net
-cut-sum-is G D t s m above w n us x e = record {
-  side = side D (read-set t) m n;
+cut-sum-is G D t m above w n us x e = record {
+  side = from-side D (read-set t) m n;
   from-side = side-is D (read-set t) m above w n us;
-  sum = e ∙ ap (G .minus) (sym (net-short G D m above (side D (read-set t) m n) (readings G t))) ∙ minus-difference G _ _;
+  sum = e ∙ ap (G .minus) (sym (net-short G D m above (from-side D (read-set t) m n) (readings G t))) ∙ minus-difference G _ _;
 }
 
 module _ (G : Group) where
@@ -100,30 +99,42 @@ module _ (G : Group) where
           (fill-start G D _ (readings G t) (λ C c o. sets-even G D w t h C (λ k u. c k (from-unread D R (D .size) (above-size D) k u)) o)) in
           (s .0, record { balanced = s .1; agrees = λ k us x e. s .2 k (shut k (has-reading t k x e)) ∙ ap (amount G) e })
 
-  pub some-flow-exactly-if-not-inconsistent : Some-flow-exactly-if-not-inconsistent G
-  some-flow-exactly-if-not-inconsistent s D w t = (
-    λ flow. not-both G D w t (some-flow-exactly-if-consistent D w t .0 flow),
-    λ no. ⊎-elim (λ h. some-flow-exactly-if-consistent D w t .1 h) (λ i. absurd (no i)) (one-of-both G D w t s),
-  )
-
   pub conflict-excludes-flows : Conflict-excludes-flows G
-  conflict-excludes-flows D w t C c flow = c .uneven (flow-net D w t flow C (c .metered))
+  conflict-excludes-flows D w t (C, c) flow = c .not-zero (flow-net D w t flow C (c .only-read-cross))
+
+  -- a part in dispute is a set in conflict
+  conflict-from-part : (D : Drawing) → Within D → (t : ℕ → Option Element) → Inconsistent G D t → Some-conflict G D t
+  conflict-from-part D w t (v, C, d) = (C, record { without-0 = d .without-0; only-read-cross = parts-metered D w t v C (d .part); not-zero = d .not-zero })
+
+  pub flow-or-conflict : Flow-or-conflict G
+  flow-or-conflict D w t = (λ none away. parts none (λ i. away (conflict-from-part D w t i)), parts)
+    where
+      parts : ¬ Some-flow G D t → ¬ ¬ Inconsistent G D t
+      parts none = not-neither G D w t (λ h. none (some-flow-exactly-if-consistent D w t .1 h))
 
   pub conflict-exactly-if-no-flow : Conflict-exactly-if-no-flow G
   conflict-exactly-if-no-flow s D w t = (
-    λ c. conflict-excludes-flows D w t (c .0) (c .1),
-    λ no. ⊎-elim
-        (λ h. absurd (no (some-flow-exactly-if-consistent D w t .1 h)))
-        (λ i. (i .1, record { inside = i .2 .inside; metered = parts-metered D w t (i .0) (i .1) (i .2 .part); uneven = i .2 .uneven }))
-        (one-of-both G D w t s),
+    (
+      conflict-excludes-flows D w t,
+      λ none. ⊎-elim (λ h. absurd (none (some-flow-exactly-if-consistent D w t .1 h))) (λ i. conflict-from-part D w t i) (one-of-both G D w t s),
+    ),
+    (
+      λ flow. not-both G D w t (some-flow-exactly-if-consistent D w t .0 flow),
+      λ none. ⊎-elim (λ h. some-flow-exactly-if-consistent D w t .1 h) (λ i. absurd (none i)) (one-of-both G D w t s),
+    ),
   )
 
   pub zero-or-anything : Zero-or-anything G
-  zero-or-anything D w S n us out = (zero-at G D w S n us, anything-at G D w S n us out)
+  zero-or-anything D w S n us out =
+      let decides = linked-decides D S (D .size) (above-size D) w n us in
+      ⊎-elim
+      (λ e. let j = decides .0 e in inr (j, anything-at G D w S n us out j))
+      (λ e. let off : ¬ Linked D S n = λ j. true≢false (sym (decides .1 j) ∙ e) in inl (off, zero-at G D w S n us off))
+      (cases-bool (linked D S (D .size) n))
 
   pub observable-carries-its-cut-sum : Observable-carries-its-cut-sum G
   unfolding net
-  observable-carries-its-cut-sum D w t n h = ((_, record { side = side D (read-set t) (D .size) n; from-side = side-is D (read-set t) (D .size) (above-size D) w n (h .0 .0); sum = refl }), carried)
+  observable-carries-its-cut-sum D w t n h = ((_, record { side = from-side D (read-set t) (D .size) n; from-side = side-is D (read-set t) (D .size) (above-size D) w n (h .0 .0); sum = refl }), carried)
     where
       carried : (x : Element) → Cut-sum G D t n x → (f : ℕ → Element) → Possible G D t f → f n ≡ x
       carried x c f p =
@@ -186,6 +197,29 @@ module _ (G : Group) where
 
 pub on-a-path-exactly-if-linked : On-a-path-exactly-if-linked
 on-a-path-exactly-if-linked D R n u = (linked-from-path D R n, path-from-linked D R n u)
+
+-- a way along streams of S goes without n, or from an end of n without n
+after-last : (D : Drawing) (S : ℕ → Type 0) (n a w : ℕ) → Joined D S a w → Joined D (Others S n) a w ⊎ (Joined D (Others S n) (D .from n) w ⊎ Joined D (Others S n) (D .to n) w)
+after-last D S n a w here = inl here
+after-last D S n a w (along {b = b} k s e j) = ⊎-elim (λ i. at i) (λ i. inr i) (after-last D S n b w j)
+  where
+    end : Joined D (Others S n) b w → k ≡ n → Joined D (Others S n) (D .from n) w ⊎ Joined D (Others S n) (D .to n) w
+    end i q = ⊎-elim
+        (λ p. inr (subst (λ v. Joined D (Others S n) v w) (sym (p .1) ∙ ap (D .to) q) i))
+        (λ p. inl (subst (λ v. Joined D (Others S n) v w) (sym (p .0) ∙ ap (D .from) q) i))
+        e
+
+    at : Joined D (Others S n) b w → Joined D (Others S n) a w ⊎ (Joined D (Others S n) (D .from n) w ⊎ Joined D (Others S n) (D .to n) w)
+    at i = ⊎-elim (λ q. inr (end i q)) (λ d. inl (along k (s, d) e i)) (cases-eq k n)
+
+pub two-sides : Two-sides
+two-sides D R n h w = (
+  (
+    λ j. ⊎-elim (λ i. inl i) (λ i. i) (after-last D (Unread D R) n (D .from n) w j),
+    λ i. ⊎-elim (λ j. joined-map (λ _ o. o .0) j) (λ j. joined-trans (joined-ends n (h .0)) (joined-map (λ _ o. o .0) j)) i,
+  ),
+  λ (a, b). h .1 (path-from-linked D R n (h .0) (joined-trans a (joined-sym b))),
+)
 
 pub exactly-one-class : Exactly-one-class
 exactly-one-class D w R n = ⊎-elim

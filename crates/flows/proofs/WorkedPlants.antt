@@ -7,6 +7,7 @@ use native.Mathlib.Omega.{arith}
 use Prim.Native.Nat.{ℕ, zero, suc, _≤_, _<_, _^_}
 use lib.Dec.{eqb, leb, ltb, lit<}
 use lib.ListN.{length, getD}
+use Rattle.std.specs.Runs.{nth}
 use Rattle.std.proofs.shelf.Lists.{getD-past}
 use Rattle.std.proofs.shelf.Tests.{cases-bool, cases-eq, cases-lt, and-parts, and-from, or-cases, or-left, or-right, not-true, not-from-true, not-from-false, eqb-true, eq-eqb, ne-eqb, leb-true, le-leb, ltb-true, lt-ltb, le-ltb, cond-true, cond-false}
 use Rattle.std.specs.declared.option.Option.{Option}
@@ -15,7 +16,6 @@ use Rattle.std.specs.declared.result.Result.{Result}
 use Rattle.std.specs.declared.result.Result.the-variants.{Ok, Err}
 use Rattle.std.specs.Options.{isSome}
 use Rattle.std.specs.Orderings.{Decides}
-use Rattle.std.specs.shelf.Lawful.{all-pass}
 use Rattle.std.specs.shelf.Lists.{All}
 use Rattle.quantity.specs.Masses.{mass-model}
 use Rattle.quantity.specs.Model.{Model}
@@ -23,7 +23,7 @@ use Rattle.quantity.specs.Totalisers.{modulus, totaliser-model}
 use Rattle.flows.specs.Classes.{Is, byte}
 use Rattle.flows.specs.Comparisons.{Comparison, compare-residues}
 use Rattle.flows.specs.Consistency as plant
-use Rattle.flows.specs.Decisions.{Above, class, part, even, all-even, consistent, cut-sum}
+use Rattle.flows.specs.Decisions.{Above, class, part, undisputed, all-undisputed, consistent, cut-sum}
 use Rattle.flows.specs.declared.class.Class.{Class}
 use Rattle.flows.specs.declared.class.Class.the-variants.{OutOfUse, Observable, Unobservable, Redundant, JustMeasured}
 use Rattle.flows.specs.declared.ends.Ends.{Ends}
@@ -38,17 +38,17 @@ use Rattle.flows.specs.declared.worked.WorkedPlant.{WorkedPlant}
 use Rattle.flows.specs.Drawings.{Drawing, In-use, Within}
 use Rattle.flows.specs.Flows.{total-below, arriving, departing, Possible-but, read-set, readings, net-below}
 use Rattle.flows.specs.Parts.{Unread, Joined}
-use Rattle.flows.specs.Plants.{last-number, Number, from-unit, to-unit}
+use Rattle.flows.specs.Plants.{last-unit, last-number, Number, from-unit, to-unit}
 use Rattle.flows.specs.Questions.{unit-places, holds, count, Survey-fits, Value-fits, Rival-fits, Dispute-fits, Surveyed, Valued, by-reading, by-cut-sum, no-amount, Written, Rivalled, Disputed, Surveys, Values, Rivals, Disputes}
 use Rattle.flows.specs.Refusals.{number, accepted}
-use Rattle.flows.specs.Worked.{at-number, place, plan, shown-readings, classes-over, flow-over, first-over, second-over, marks-over, Shown, Right}
-use Rattle.flows.specs.WorkedTests.{all-below, every, none-fits, smallest, within-test, same-mark, first-mark, top, steady, has-class, shape, survey-fits, value-fits, rival-fits, dispute-fits, counted, survey-right, reads, value-right, flow-of, allows, flow-right, rival-right, dispute-right, row-right, right, all-right}
+use Rattle.flows.specs.Worked.{at-number, plan, shown-readings, classes-over, flow-over, first-over, second-over, marks-over, Shown, Right}
+use Rattle.flows.specs.WorkedTests.{all-below, every, none-fits, smallest, within-test, same-mark, first-mark, top, is-consistent, has-class, shape, survey-fits, value-fits, rival-fits, dispute-fits, counted, survey-right, reads, value-right, flow-of, allows, flow-right, rival-right, dispute-right, row-right, passes}
 use Rattle.flows.proofs.Cuts.{ends-within}
 use Rattle.flows.proofs.Decisions.{fails, part-is, side-is, class-is, class-only, total-short, net-short}
 use Rattle.flows.proofs.Results.{cut-sum-is}
-use Rattle.flows.proofs.Evenness.{even-part, uneven-part, all-even-each, consistent-if, inconsistent-if, not-both}
+use Rattle.flows.proofs.Evenness.{undisputed-part, disputed-part, all-undisputed-each, consistent-if, inconsistent-if, not-both}
 use Rattle.flows.proofs.Joins.{joined-within}
-use Rattle.flows.proofs.Tallies.{tally-same, tally-short, count-is}
+use Rattle.flows.proofs.Tallies.{how-many-same, how-many-short, count-is}
 
 -- tests of rows
 
@@ -118,10 +118,10 @@ same-mark-is : (a b : Bool) → same-mark a b ≡ true → a ≡ b
 same-mark-is true b h = sym h
 same-mark-is false b h = sym (not-true b h)
 
-place-holds : {Q : Type 0} (m : Model Q) (xs : List Q) (k : ℕ) → k < length xs → (a : Q) × (place xs k ≡ Some a) × (m .means a ≡ getD (map (m .means) xs) k (m .group .zero))
-place-holds m [] k lt = absurd (omega arith)
-place-holds m (x ∷ xs) zero lt = (x, refl, refl)
-place-holds m (x ∷ xs) (suc k) lt = place-holds m xs k (omega arith)
+nth-holds : {Q : Type 0} (m : Model Q) (xs : List Q) (k : ℕ) → k < length xs → (a : Q) × (nth xs k ≡ Some a) × (m .means a ≡ getD (map (m .means) xs) k (m .group .zero))
+nth-holds m [] k lt = absurd (omega arith)
+nth-holds m (x ∷ xs) zero lt = (x, refl, refl)
+nth-holds m (x ∷ xs) (suc k) lt = nth-holds m xs k (omega arith)
 
 module _ {Q : Type 0} (m : Model Q) (s : Comparison (m .group)) (row : WorkedPlant Q) (well : shape m s row ≡ true) where
   abbrev D : Drawing
@@ -133,14 +133,18 @@ module _ {Q : Type 0} (m : Model Q) (s : Comparison (m .group)) (row : WorkedPla
   abbrev R : ℕ → Bool
   R = read-set t
 
+  lists : (leb (length (row .ends)) last-number && (eqb (length (row .value)) (length (row .ends)) && (eqb (length (row .rival)) (length (row .ends))
+      && all-below (λ k. within-test (row .units) (getD (row .ends) k None)) (length (row .ends))))) ≡ true
+  lists = and-parts (leb (row .units) last-unit) _ well .1
+
   few : length (row .ends) ≤ last-number
-  few = leb-true (length (row .ends)) last-number (and-parts (leb (length (row .ends)) last-number) _ well .0)
+  few = leb-true (length (row .ends)) last-number (and-parts (leb (length (row .ends)) last-number) _ lists .0)
 
   values : length (row .value) ≡ length (row .ends)
-  values = eqb-true (length (row .value)) (length (row .ends)) (and-parts (eqb (length (row .value)) (length (row .ends))) _ (and-parts (leb (length (row .ends)) last-number) _ well .1) .0)
+  values = eqb-true (length (row .value)) (length (row .ends)) (and-parts (eqb (length (row .value)) (length (row .ends))) _ (and-parts (leb (length (row .ends)) last-number) _ lists .1) .0)
 
   rivals-and-ends : (eqb (length (row .rival)) (length (row .ends)) && all-below (λ k. within-test (row .units) (getD (row .ends) k None)) (length (row .ends))) ≡ true
-  rivals-and-ends = and-parts (eqb (length (row .value)) (length (row .ends))) _ (and-parts (leb (length (row .ends)) last-number) _ well .1) .1
+  rivals-and-ends = and-parts (eqb (length (row .value)) (length (row .ends))) _ (and-parts (leb (length (row .ends)) last-number) _ lists .1) .1
 
   rivals : length (row .rival) ≡ length (row .ends)
   rivals = eqb-true (length (row .rival)) (length (row .ends)) (and-parts (eqb (length (row .rival)) (length (row .ends))) _ rivals-and-ends .0)
@@ -175,16 +179,16 @@ module _ {Q : Type 0} (m : Model Q) (s : Comparison (m .group)) (row : WorkedPla
           (λ past. subst (λ o. (from-unit o ≤ row .units) × (to-unit o ≤ row .units)) (sym (getD-past (row .ends) k None past)) (omega arith, omega arith))
           (cases-lt k (length (row .ends)))
 
-  steady-decides : Decides (steady m s row) (plant.Consistent (m .group) D t)
-  steady-decides = (
+  consistent-decides : Decides (is-consistent m s row) (plant.Consistent (m .group) D t)
+  consistent-decides = (
     consistent-if (m .group) D within-row t s (top m s row) above,
-    λ h. ⊎-elim (λ e. e) (λ e. absurd (not-both (m .group) D within-row t h (inconsistent-if (m .group) D within-row t s (top m s row) above e))) (cases-bool (steady m s row)),
+    λ h. ⊎-elim (λ e. e) (λ e. absurd (not-both (m .group) D within-row t h (inconsistent-if (m .group) D within-row t s (top m s row) above e))) (cases-bool (is-consistent m s row)),
   )
 
-  unsteady-decides : Decides (not (steady m s row)) (plant.Inconsistent (m .group) D t)
-  unsteady-decides = (
-    λ e. inconsistent-if (m .group) D within-row t s (top m s row) above (not-true (steady m s row) e),
-    λ i. not-from-false (steady m s row) (fails (steady m s row) (λ e. not-both (m .group) D within-row t (steady-decides .0 e) i)),
+  inconsistent-decides : Decides (not (is-consistent m s row)) (plant.Inconsistent (m .group) D t)
+  inconsistent-decides = (
+    λ e. inconsistent-if (m .group) D within-row t s (top m s row) above (not-true (is-consistent m s row) e),
+    λ i. not-from-false (is-consistent m s row) (fails (is-consistent m s row) (λ e. not-both (m .group) D within-row t (consistent-decides .0 e) i)),
   )
 
   unused-decides : (k : ℕ) → k < last-number → Decides (not (D .used (suc k))) (¬ In-use D (suc k))
@@ -200,7 +204,7 @@ module _ {Q : Type 0} (m : Model Q) (s : Comparison (m .group)) (row : WorkedPla
   )
 
   survey-decides : (places : ℕ) → last-number ≤ places → (f : QuestionFault) → Decides (survey-fits m s row f) (Survey-fits m D t places f)
-  survey-decides places le Inconsistent = unsteady-decides
+  survey-decides places le Inconsistent = inconsistent-decides
   survey-decides places le TableTooShort = never (λ lt. omega arith)
   survey-decides places le NumberOutside = never (λ y. y)
   survey-decides places le NotInUse = never (λ y. y)
@@ -209,7 +213,7 @@ module _ {Q : Type 0} (m : Model Q) (s : Comparison (m .group)) (row : WorkedPla
 
   value-decides : (k : ℕ) → k < last-number → (f : QuestionFault) → Decides (value-fits m s row (suc k) f) (Value-fits m D t (suc k) f)
   value-decides k lt NotInUse = unused-decides k lt
-  value-decides k lt Inconsistent = unsteady-decides
+  value-decides k lt Inconsistent = inconsistent-decides
   value-decides k lt NumberOutside = never (λ out. out (omega arith, omega arith))
   value-decides k lt TableTooShort = never (λ y. y)
   value-decides k lt Determined = never (λ y. y)
@@ -217,7 +221,7 @@ module _ {Q : Type 0} (m : Model Q) (s : Comparison (m .group)) (row : WorkedPla
 
   rival-decides : (k : ℕ) → k < last-number → (first second : ℕ) → last-number ≤ first → last-number ≤ second → (f : QuestionFault) → Decides (rival-fits m s row (suc k) f) (Rival-fits m D t (suc k) first second f)
   rival-decides k lt first second lf ls NotInUse = unused-decides k lt
-  rival-decides k lt first second lf ls Inconsistent = unsteady-decides
+  rival-decides k lt first second lf ls Inconsistent = inconsistent-decides
   rival-decides k lt first second lf ls Determined = (
     λ e. ⊎-elim (λ a. inl (observable .0 a)) (λ b. inr (redundant .0 b)) (or-cases (has-class m s row Observable (suc k)) _ e),
     λ h. ⊎-elim (λ a. or-left (has-class m s row Observable (suc k)) _ (observable .1 a)) (λ b. or-right (has-class m s row Observable (suc k)) _ (redundant .1 b)) h,
@@ -233,7 +237,7 @@ module _ {Q : Type 0} (m : Model Q) (s : Comparison (m .group)) (row : WorkedPla
   rival-decides k lt first second lf ls Consistent = never (λ y. y)
 
   dispute-decides : (places : ℕ) → unit-places ≤ places → (f : QuestionFault) → Decides (dispute-fits m s row f) (Dispute-fits m D t places f)
-  dispute-decides places le Consistent = steady-decides
+  dispute-decides places le Consistent = consistent-decides
   dispute-decides places le TableTooShort = never (λ lt. omega arith)
   dispute-decides places le NumberOutside = never (λ y. y)
   dispute-decides places le NotInUse = never (λ y. y)
@@ -260,7 +264,7 @@ module _ {Q : Type 0} (m : Model Q) (s : Comparison (m .group)) (row : WorkedPla
   survey-shown (Err f) h places le old = let y = smallest-holds (survey-fits m s row) _ (survey-decides places le) f h in (y .0, y .1, refl)
   survey-shown (Ok v) h places le old =
       let a = and-parts (none-fits (survey-fits m s row)) _ h in
-      let b = and-parts (steady m s row) _ (a .1) in
+      let b = and-parts (is-consistent m s row) _ (a .1) in
       let c = and-parts (eqb (length (v .classes)) (length (row .ends))) _ (b .1) in
       let d = and-parts (all-below _ (length (row .ends))) _ (c .1) in
       let e = and-parts (eqb (v .counts .0) (counted m s row v 1)) _ (d .1) in
@@ -269,7 +273,7 @@ module _ {Q : Type 0} (m : Model Q) (s : Comparison (m .group)) (row : WorkedPla
       let long = eqb-true (length (v .classes)) (length (row .ends)) (c .0) in (
         none-holds (survey-fits m s row) _ (survey-decides places le) (a .0),
         record {
-          consistent = steady-decides .0 (b .0);
+          consistent = consistent-decides .0 (b .0);
           classes = λ k lt. (shown k, is-shown long (d .0) k lt, written k lt);
           kept = λ k past. cond-false (ltb k last-number) (Some (byte (shown k))) (old k) (le-ltb k last-number past);
           observable = counted-is long 1 (λ z. omega arith) (v .counts .0) (e .0);
@@ -297,9 +301,9 @@ module _ {Q : Type 0} (m : Model Q) (s : Comparison (m .group)) (row : WorkedPla
       counted-is : length (v .classes) ≡ length (row .ends) → (b : ℕ) → ¬ (0 ≡ b) → (n : ℕ) → eqb n (counted m s row v b) ≡ true → n ≡ count b new last-number
       counted-is long b some n e =
           eqb-true n (counted m s row v b) e
-          ∙ sym (tally-short (length (v .classes)) last-number (λ k. eqb (byte (shown k)) b) (let l = few in omega arith)
+          ∙ sym (how-many-short (length (v .classes)) last-number (λ k. eqb (byte (shown k)) b) (let l = few in omega arith)
           (λ k lo _. ap (λ c. eqb (byte c) b) (getD-past (v .classes) k OutOfUse lo) ∙ ne-eqb 0 b some))
-          ∙ tally-same last-number _ _ (λ k lt. ap (λ o. holds o b) (sym (written k lt)))
+          ∙ how-many-same last-number _ _ (λ k lt. ap (λ o. holds o b) (sym (written k lt)))
           ∙ sym (count-is b new last-number)
 
   reads-is : (o : Option (m .group .Element)) (x : m .group .Element) → reads m s row o x ≡ true → o ≡ Some x
@@ -310,15 +314,15 @@ module _ {Q : Type 0} (m : Model Q) (s : Comparison (m .group)) (row : WorkedPla
   value-shown k lt l (Err f) h = let y = smallest-holds (value-fits m s row (suc k)) _ (value-decides k lt) f h in (y .0, y .1, tt)
   value-shown k lt l (Ok None) h =
       let a = and-parts (none-fits (value-fits m s row (suc k))) _ h in
-      let b = and-parts (steady m s row) _ (a .1) in
-      (none-holds (value-fits m s row (suc k)) _ (value-decides k lt) (a .0), (steady-decides .0 (b .0), no-amount (class-decides Unobservable (suc k) (omega arith) .0 (b .1))))
+      let b = and-parts (is-consistent m s row) _ (a .1) in
+      (none-holds (value-fits m s row (suc k)) _ (value-decides k lt) (a .0), (consistent-decides .0 (b .0), no-amount (class-decides Unobservable (suc k) (omega arith) .0 (b .1))))
   value-shown k lt l (Ok (Some x)) h =
       let a = and-parts (none-fits (value-fits m s row (suc k))) _ h in
-      let b = and-parts (steady m s row) _ (a .1) in
+      let b = and-parts (is-consistent m s row) _ (a .1) in
       let none = none-holds (value-fits m s row (suc k)) _ (value-decides k lt) (a .0) in (
         none,
         (
-          steady-decides .0 (b .0),
+          consistent-decides .0 (b .0),
           ⊎-elim
               (λ e. by-reading (used none) (reads-is (t (suc k)) (m .means x) e))
               (λ e.
@@ -331,8 +335,8 @@ module _ {Q : Type 0} (m : Model Q) (s : Comparison (m .group)) (row : WorkedPla
       used : ((f : QuestionFault) → ¬ Value-fits m D t (suc k) f) → In-use D (suc k)
       used none = (omega arith, ⊎-elim (λ e. e) (λ e. absurd (none NotInUse (λ us. true≢false (sym (us .1) ∙ e)))) (cases-bool (D .used (suc k))))
 
-      cut-shown : In-use D (suc k) → s .same (cut-sum (m .group) s D t (top m s row) (suc k)) (m .means x) ≡ true → plant.Cut-sum (m .group) D t (suc k) (m .means x)
-      cut-shown us e = cut-sum-is (m .group) D t s (top m s row) above within-row (suc k) us (m .means x) (sym (s .decides _ _ .0 e))
+      cut-shown : In-use D (suc k) → s .same (cut-sum (m .group) D t (top m s row) (suc k)) (m .means x) ≡ true → plant.Cut-sum (m .group) D t (suc k) (m .means x)
+      cut-shown us e = cut-sum-is (m .group) D t (top m s row) above within-row (suc k) us (m .means x) (sym (s .decides _ _ .0 e))
 
   allows-is : (o : Option (m .group .Element)) (x y : m .group .Element) → allows m s row o x ≡ true → o ≡ Some y → x ≡ y
   allows-is o x y h e = s .decides x y .0 (sym (ap (λ o. allows m s row o x) e) ∙ h)
@@ -344,8 +348,8 @@ module _ {Q : Type 0} (m : Model Q) (s : Comparison (m .group)) (row : WorkedPla
       let long = eqb-true (length xs) (length (row .ends)) (a .0) in
       record {
         possible = record { balanced = λ v lo hi. balanced (b .0) v lo hi; agrees = λ k us but x e. agrees (b .1) k us but x e };
-        held = λ k us. held long k us;
-        kept = λ k out. cond-false (D .used (suc k)) (place xs k) (old k) (fails (D .used (suc k)) (λ us. out (in-use k us)));
+        amounts = λ k us. amounts long k us;
+        kept = λ k out. cond-false (D .used (suc k)) (nth xs k) (old k) (fails (D .used (suc k)) (λ us. out (in-use k us)));
       }
     where
       f : ℕ → m .group .Element
@@ -359,19 +363,22 @@ module _ {Q : Type 0} (m : Model Q) (s : Comparison (m .group)) (row : WorkedPla
           ∙ s .decides _ _ .0 (each-below _ (row .units) each v (omega arith))
           ∙ sym (total-short (m .group) D (top m s row) above _ f)
 
-      agrees : all-below (λ k. eqb (suc k) n || allows m s row (t (suc k)) (f (suc k))) (length (row .ends)) ≡ true
+      agrees : all-below (λ k. eqb (suc k) n || (not (D .used (suc k)) || allows m s row (t (suc k)) (f (suc k)))) (length (row .ends)) ≡ true
           → (k : ℕ) → In-use D k → ¬ (k ≡ n) → (x : m .group .Element) → t k ≡ Some x → f k ≡ x
       agrees each zero us but x e = absurd (zero-unused (us .1))
       agrees each (suc k) us but x e = ⊎-elim
           (λ q. absurd (but (eqb-true (suc k) n q)))
-          (λ y. allows-is (t (suc k)) (f (suc k)) x y e)
+          (λ y. ⊎-elim
+          (λ o. absurd (true≢false (sym (us .1) ∙ not-true (D .used (suc k)) o)))
+          (λ z. allows-is (t (suc k)) (f (suc k)) x z e)
+          (or-cases (not (D .used (suc k))) _ y))
           (or-cases (eqb (suc k) n) _ (each-below _ (length (row .ends)) each k (listed k (us .1))))
 
-      held : length xs ≡ length (row .ends) → (k : ℕ) → In-use D (suc k) → (a : Q) × (flow-over D xs old k ≡ Some a) × (m .means a ≡ f (suc k))
-      held long k us =
+      amounts : length xs ≡ length (row .ends) → (k : ℕ) → In-use D (suc k) → (a : Q) × (flow-over D xs old k ≡ Some a) × (m .means a ≡ f (suc k))
+      amounts long k us =
           let l = listed k (us .1) in
-          let p = place-holds m xs k (omega arith) in
-          (p .0, cond-true (D .used (suc k)) (place xs k) (old k) (us .1) ∙ p .1, p .2)
+          let p = nth-holds m xs k (omega arith) in
+          (p .0, cond-true (D .used (suc k)) (nth xs k) (old k) (us .1) ∙ p .1, p .2)
 
   rival-past : (k : ℕ) → k < last-number → length (row .ends) ≤ k → (first second : ℕ) → last-number ≤ first → last-number ≤ second → (old-first old-second : ℕ → Option Q)
       → Rivals m D t (suc k) first old-first second old-second (Err NotInUse) old-first old-second
@@ -391,12 +398,12 @@ module _ {Q : Type 0} (m : Model Q) (s : Comparison (m .group)) (row : WorkedPla
       let y = smallest-holds (rival-fits m s row (suc k)) _ (rival-decides k lt first second lf ls) f h in (y .0, y .1, (refl, refl))
   rival-shown k lt (Ok f) h first second lf ls old-first old-second =
       let a = and-parts (none-fits (rival-fits m s row (suc k))) _ h in
-      let b = and-parts (steady m s row) _ (a .1) in
+      let b = and-parts (is-consistent m s row) _ (a .1) in
       let c = and-parts (flow-right m s row (suc k) (f .first)) _ (b .1) in
       let d = and-parts (flow-right m s row (suc k) (f .second)) _ (c .1) in (
         none-holds (rival-fits m s row (suc k)) _ (rival-decides k lt first second lf ls) (a .0),
         record {
-          consistent = steady-decides .0 (b .0);
+          consistent = consistent-decides .0 (b .0);
           one = flow-of m s row (f .first);
           other = flow-of m s row (f .second);
           first = flow-shown (suc k) (f .first) (c .0) old-first;
@@ -412,8 +419,8 @@ module _ {Q : Type 0} (m : Model Q) (s : Comparison (m .group)) (row : WorkedPla
       let a = and-parts (none-fits (dispute-fits m s row)) _ h in
       let b = and-parts (ltb (row .units) (length (d .marks))) _ (a .1) in
       let c = and-parts (leb v (row .units)) _ (b .1) in
-      let e = and-parts (not (even (m .group) s D t (top m s row) v)) _ (c .1) in
-      let f = and-parts (all-even (m .group) s D t (top m s row) v) _ (e .1) in
+      let e = and-parts (not (undisputed (m .group) s D t (top m s row) v)) _ (c .1) in
+      let f = and-parts (all-undisputed (m .group) s D t (top m s row) v) _ (e .1) in
       let g = and-parts (all-below _ (length (d .marks))) _ (f .1) in
       let lv = leb-true v (row .units) (c .0) in
       let long = ltb-true (row .units) (length (d .marks)) (b .0) in (
@@ -421,7 +428,7 @@ module _ {Q : Type 0} (m : Model Q) (s : Comparison (m .group)) (row : WorkedPla
         record {
           lowest = v;
           part = C;
-          uneven = uneven-part (m .group) D within-row t s (top m s row) above v lv (not-true _ (e .0));
+          in-dispute = disputed-part (m .group) D within-row t s (top m s row) above v lv (not-true _ (e .0));
           none-lower = λ w B u. lowest lv (f .0) w B u;
           marked = λ w lt j. written w lt true (marked-at lv long (g .0) w j);
           unmarked = λ w lt off. written w lt false (fails (mark w) (λ i. off (joined-at lv long (g .0) w i)));
@@ -442,9 +449,9 @@ module _ {Q : Type 0} (m : Model Q) (s : Comparison (m .group)) (row : WorkedPla
       written : (w : ℕ) → w < unit-places → (b : Bool) → mark w ≡ b → marks-over (Ok d) old w ≡ Some (cond b 1 0)
       written w lt b e = cond-true (ltb w unit-places) (Some (cond (mark w) 1 0)) (old w) (lt-ltb w unit-places lt) ∙ ap (λ i. Some (cond i 1 0)) e
 
-      lowest : v ≤ row .units → all-even (m .group) s D t (top m s row) v ≡ true → (w : ℕ) (B : ℕ → Bool) → plant.Uneven (m .group) D t w B → v ≤ w
+      lowest : v ≤ row .units → all-undisputed (m .group) s D t (top m s row) v ≡ true → (w : ℕ) (B : ℕ → Bool) → plant.In-dispute (m .group) D t w B → v ≤ w
       lowest lv each w B u = ⊎-elim
-          (λ (lt : w < v). absurd (u .uneven (even-part (m .group) D within-row t s (top m s row) above w (u .unit) (all-even-each (m .group) D within-row t s (top m s row) above v each w lt) B (u .part) (u .inside))))
+          (λ (lt : w < v). absurd (u .not-zero (undisputed-part (m .group) D within-row t s (top m s row) above w (u .unit) (all-undisputed-each (m .group) D within-row t s (top m s row) above v each w lt) B (u .part) (u .without-0))))
           (λ ge. ge)
           (cases-lt w v)
 
@@ -471,6 +478,7 @@ row-shown m s row h =
     let c = and-parts (all-below _ (length (row .ends))) _ (b .1) in
     let d = and-parts (all-below _ (length (row .ends))) _ (c .1) in
     record {
+      units = leb-true (row .units) last-unit (and-parts (leb (row .units) last-unit) _ (a .0) .0);
       within = within-row m s row (a .0);
       survey = survey-shown m s row (a .0) (row .survey) (b .0);
       value = λ k lt. value-at (a .0) (c .0) k lt;
@@ -498,6 +506,6 @@ row-shown m s row h =
         (rival-past m s row well k lt past first second lf ls old-first old-second))
         (cases-lt k (length (row .ends)))
 
-pub right-shown : (w : Worked) → right w ≡ true → Right w
-right-shown (OfMasses row) h = row-shown mass-model (compare-residues (2 ^ 64) (lit< tt)) row h
-right-shown (OfTotalisers row) h = row-shown totaliser-model (compare-residues modulus (lit< tt)) row h
+pub passing-shown : (w : Worked) → passes w ≡ true → Right w
+passing-shown (OfMasses row) h = row-shown mass-model (compare-residues (2 ^ 64) (lit< tt)) row h
+passing-shown (OfTotalisers row) h = row-shown totaliser-model (compare-residues modulus (lit< tt)) row h

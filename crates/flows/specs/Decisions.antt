@@ -1,21 +1,24 @@
 -- What the definitions say, computed. Assumes nothing.
 --
--- These are not definitions of the subject: contracts prove them equal to the definitions, so that what a small plant shows
--- can be proved by computing. m is a number above all streams in use.
+-- These are not definitions of the subject: a theorem says that they give what the definitions say, so that what a small plant
+-- shows can be proved by computing. m is a number above all streams in use.
 --
 -- Above D m            no stream from m on is in use
--- unread D R k         stream k is unread, as a test
--- unread-but D R n k   .. and not n
--- labels D e n         a label for each place, merged along each stream below n that passes e
+-- unread D R k         whether stream k is unread
+-- unread-but D R n k   .. and is not n
+-- merged a b xs        the labels xs, with the label of place a in place of that of place b
+-- labels D e n         a label for each place: its own number, merged along each stream below n that passes e
 -- label D e n w        the label of place w
--- linked D R m n       unread streams other than n join the two ends of n
+-- linked D R m n       whether unread streams other than n join the two ends of n
 -- class D R m n        the class of stream n
--- part D R m v         the part of unit v, as a test
--- side D R m n         the side of the from unit of n without n, as a test
+-- part D R m v         the part of unit v
+-- from-side D R m n    the side of the from unit of n
 -- cut-sum G D t m n    the cut sum of n
--- even G s D t m v     the part of v has the surroundings or the net amount zero; s compares amounts
--- all-even G s D t m n .. for each unit below n
--- consistent G s D t m each part without the surroundings has the net amount zero
+--
+-- These compare amounts by s:
+-- undisputed G s D t m v      whether the part of v has place 0, or the net amount zero
+-- all-undisputed G s D t m n  .. for each unit below n
+-- consistent G s D t m        .. for every unit
 use mathlib.Core.Bool.{Bool, true, false, not, cond, _&&_, _||_}
 use mathlib.Core.List.{List, map}
 use Prim.Native.Nat.{ℕ, zero, suc, _≤_}
@@ -40,7 +43,6 @@ unread D R k = D .used k && not (R k)
 abbrev pub unread-but : Drawing → (ℕ → Bool) → ℕ → ℕ → Bool
 unread-but D R n k = unread D R k && not (eqb k n)
 
--- Where stream n passes, the label of its from place takes the place of that of its to place.
 abbrev pub merged : ℕ → ℕ → List ℕ → List ℕ
 merged a b xs = map (λ x. cond (eqb x (getD xs b 0)) (getD xs a 0) x) xs
 
@@ -62,19 +64,19 @@ class D R m n = cond (D .used n)
 abbrev pub part : Drawing → (ℕ → Bool) → ℕ → ℕ → ℕ → Bool
 part D R m v w = eqb (label D (unread D R) m w) (label D (unread D R) m v)
 
-abbrev pub side : Drawing → (ℕ → Bool) → ℕ → ℕ → ℕ → Bool
-side D R m n w = eqb (label D (unread-but D R n) m w) (label D (unread-but D R n) m (D .from n))
+abbrev pub from-side : Drawing → (ℕ → Bool) → ℕ → ℕ → ℕ → Bool
+from-side D R m n w = eqb (label D (unread-but D R n) m w) (label D (unread-but D R n) m (D .from n))
+
+abbrev pub cut-sum : (G : Group) (D : Drawing) (t : ℕ → Option (G .Element)) → ℕ → ℕ → G .Element
+cut-sum G D t m n = G .minus (net-below G D m (from-side D (read-set t) m n) (readings G t))
 
 module _ (G : Group) (s : Comparison G) (D : Drawing) (t : ℕ → Option (G .Element)) (m : ℕ) where
-  abbrev pub cut-sum : ℕ → G .Element
-  cut-sum n = G .minus (net-below G D m (side D (read-set t) m n) (readings G t))
+  abbrev pub undisputed : ℕ → Bool
+  undisputed v = part D (read-set t) m v 0 || s .same (net-below G D m (part D (read-set t) m v) (readings G t)) (G .zero)
 
-  abbrev pub even : ℕ → Bool
-  even v = part D (read-set t) m v 0 || s .same (net-below G D m (part D (read-set t) m v) (readings G t)) (G .zero)
-
-  abbrev pub all-even : ℕ → Bool
-  all-even zero = true
-  all-even (suc v) = all-even v && even v
+  abbrev pub all-undisputed : ℕ → Bool
+  all-undisputed zero = true
+  all-undisputed (suc v) = all-undisputed v && undisputed v
 
   abbrev pub consistent : Bool
-  consistent = all-even (suc (D .units))
+  consistent = all-undisputed (suc (D .units))

@@ -20,7 +20,8 @@
 -- Possible-but G D n t f  f is balanced and agrees with the readings other than that of n
 -- Some-flow G D t       some balanced flow agrees
 -- read-set t            the numbers that have a reading
--- readings G t          the readings as amounts, zero where there is none
+-- amount G o            a reading as an amount, zero where there is none
+-- readings G t          the readings as amounts
 use mathlib.Core.Bool.{Bool, true, not, cond, _&&_}
 use mathlib.Core.Path.{_≡_}
 use Prim.Native.Nat.{ℕ, _≤_}

@@ -10,6 +10,8 @@
 -- Part D S v C       the test C holds exactly the places that streams of S join to v: the part of v
 -- Uncrossed D S C    no stream of S has one end in C and one outside
 -- Linked D R n       unread streams other than n join the two ends of n
+-- From-side D R n C  C is the side of the from end of n: what unread streams other than n join to it
+-- To-side D R n C    C is the side of its to end
 use mathlib.Core.Bool.{Bool, true, false}
 use mathlib.Core.Logic.{_↔_}
 use mathlib.Core.Path.{_≡_}
@@ -38,3 +40,9 @@ Uncrossed D S C = (k : ℕ) → S k → C (D .from k) ≡ C (D .to k)
 
 abbrev pub Linked : Drawing → (ℕ → Bool) → ℕ → Type 0
 Linked D R n = Joined D (Others (Unread D R) n) (D .from n) (D .to n)
+
+abbrev pub From-side : Drawing → (ℕ → Bool) → ℕ → (ℕ → Bool) → Type 0
+From-side D R n C = Part D (Others (Unread D R) n) (D .from n) C
+
+abbrev pub To-side : Drawing → (ℕ → Bool) → ℕ → (ℕ → Bool) → Type 0
+To-side D R n C = Part D (Others (Unread D R) n) (D .to n) C

@@ -30,6 +30,6 @@ pub record Closed-path (D : Drawing) (S : ℕ → Type 0) (n : ℕ) : Type 0 whe
   pub streams : List ℕ
   pub met : List ℕ
   pub route : Route D S start start streams met
-  pub once : Distinct streams
-  pub apart : Distinct met
+  pub no-stream-twice : Distinct streams
+  pub no-place-twice : Distinct met
   pub through : Member n streams

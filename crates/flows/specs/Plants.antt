@@ -1,5 +1,6 @@
 -- The drawing and the readings of a plant. Assumes nothing.
 --
+-- last-unit           the largest unit that a plant may have: 256
 -- last-number         the largest stream number: 1,024
 -- Number n            n is a stream number: from 1 to 1,024
 -- drawing u ends      the drawing of the plant with units 0 to u and the ends that each number has; a number with ends is in
@@ -14,12 +15,16 @@ use Rattle.std.specs.declared.option.Option.the-variants.{None, Some}
 use Rattle.flows.specs.declared.ends.Ends.{Ends}
 use Rattle.flows.specs.Drawings.{Drawing}
 
+abbrev pub last-unit : ℕ
+last-unit = 256
+
 abbrev pub last-number : ℕ
 last-number = 1024
 
 abbrev pub Number : ℕ → Type 0
 Number n = (1 ≤ n) × (n ≤ last-number)
 
+-- the ends of a stream; they mean nothing where there are none
 abbrev pub from-unit : Option Ends → ℕ
 from-unit (Some e) = e .from
 from-unit None = 0

@@ -1,16 +1,19 @@
 -- What survey, value, rival and dispute give, on a drawing D and a table t of readings. Assumes nothing.
 --
--- Amounts are of a type Q with model m; readings are the elements that they mean. A table of places is a function: what
--- stands at each place, and none past its end. `old` and `new` are a table before and after the call.
+-- Amounts are of a type Q with model m; readings are the elements that they mean. A table that is handed in is a count of
+-- places and a function, what stands at each place: some value at the places below that count, and none at the others. `old` and
+-- `new` are a table before and after the call. A call on a plant uses these definitions at the plant's own drawing, whose
+-- streams lie within its units.
 --
--- Survey-fits, Value-fits, Rival-fits, Dispute-fits   when each refusal fits
+-- unit-places           the places that dispute asks of its table: 257
 -- meant m a             what an amount means, if there is one
--- tally p n             how many numbers below n pass p
+-- how-many p n          how many numbers below n pass p
 -- count b table n       how often the byte b stands at places below n
--- Surveyed              what an accepted survey answers and writes: class bytes, and how often each class occurs
+-- Survey-fits, Value-fits, Rival-fits, Dispute-fits   when each refusal fits
+-- Surveyed              what an accepted survey answers and writes
 -- Valued n answer       what an accepted value answers
--- Written n f old new   the table holds the flow f: balanced, and agreeing with the readings other than that of n;
---                       stream k stands at place k - 1, and places of numbers out of use are kept
+-- Written n f old new   the table holds the flow f: balanced, and agreeing with the readings other than that of n; places of
+--                       numbers out of use are kept
 -- Rivalled              what an accepted rival writes: two such flows that differ at n
 -- Disputed              what an accepted dispute answers and marks
 -- Surveys, Values, Rivals, Disputes   the whole answer of each question, refusals included; a refusal leaves the tables
@@ -26,33 +29,34 @@ use Rattle.quantity.specs.Model.{Model}
 use Rattle.flows.specs.Classes.{Is, byte}
 use Rattle.flows.specs.Consistency as plant
 use Rattle.flows.specs.declared.class.Class.{Class}
-use Rattle.flows.specs.declared.class.Class.the-variants.{Observable, Unobservable, Redundant}
+use Rattle.flows.specs.declared.class.Class.the-variants.{Observable, Unobservable, Redundant, JustMeasured}
 use Rattle.flows.specs.declared.fault.QuestionFault.{QuestionFault}
 use Rattle.flows.specs.declared.fault.QuestionFault.the-variants.{NumberOutside, TableTooShort, NotInUse, Inconsistent, Determined, Consistent}
 use Rattle.flows.specs.Drawings.{Drawing, In-use}
 use Rattle.flows.specs.Flows.{Possible-but, read-set}
 use Rattle.flows.specs.Parts.{Unread, Joined}
-use Rattle.flows.specs.Plants.{last-number, Number}
+use Rattle.flows.specs.Plants.{last-unit, last-number, Number}
 use Rattle.flows.specs.Refusals.{number, Answer}
 
--- Dispute has a place for each unit that a plant may have, 0 to 256.
+-- dispute's table has a place for each unit that a plant may have
 abbrev pub unit-places : ℕ
-unit-places = 257
+unit-places = suc last-unit
 
 abbrev pub meant : {Q : Type 0} (m : Model Q) → Option Q → Option (m .group .Element)
 meant m (Some a) = Some (m .means a)
 meant m None = None
 
-abbrev pub tally : (ℕ → Bool) → ℕ → ℕ
-tally p zero = 0
-tally p (suc n) = tally p n + cond (p n) 1 0
+abbrev pub how-many : (ℕ → Bool) → ℕ → ℕ
+how-many p zero = 0
+how-many p (suc n) = how-many p n + cond (p n) 1 0
 
+-- whether a place has the byte b
 abbrev pub holds : Option ℕ → ℕ → Bool
 holds (Some x) b = eqb x b
 holds None b = false
 
 unfoldable pub count : ℕ → (ℕ → Option ℕ) → ℕ → ℕ
-count b table n = tally (λ k. holds (table k) b) n
+count b table n = how-many (λ k. holds (table k) b) n
 
 module _ {Q : Type 0} (m : Model Q) (D : Drawing) (t : ℕ → Option (m .group .Element)) where
   abbrev pub Survey-fits : ℕ → QuestionFault → Type 0
@@ -87,25 +91,26 @@ module _ {Q : Type 0} (m : Model Q) (D : Drawing) (t : ℕ → Option (m .group 
   Dispute-fits places Inconsistent = ⊥
   Dispute-fits places Determined = ⊥
 
-  -- Stream number k + 1 stands at place k.
+  -- the class of number k + 1 at place k, and the counts of the four classes
   pub record Surveyed (old : ℕ → Option ℕ) (counts : ℕ × ℕ × ℕ × ℕ) (new : ℕ → Option ℕ) : Type 0 where
     pub consistent : plant.Consistent (m .group) D t
     pub classes : (k : ℕ) → k < last-number → (c : Class) × Is D (read-set t) c (suc k) × (new k ≡ Some (byte c))
     pub kept : (k : ℕ) → last-number ≤ k → new k ≡ old k
-    pub observable : counts .0 ≡ count 1 new last-number
-    pub unobservable : counts .1 ≡ count 2 new last-number
-    pub redundant : counts .2 ≡ count 3 new last-number
-    pub just-measured : counts .3 ≡ count 4 new last-number
+    pub observable : counts .0 ≡ count (byte Observable) new last-number
+    pub unobservable : counts .1 ≡ count (byte Unobservable) new last-number
+    pub redundant : counts .2 ≡ count (byte Redundant) new last-number
+    pub just-measured : counts .3 ≡ count (byte JustMeasured) new last-number
 
-  -- The plant is consistent, and n is in use.
+  -- a read stream has its reading, an observable one its cut sum, an unobservable one no amount
   pub data Valued (n : ℕ) : Option Q → Type 0 where
     by-reading : {a : Q} → In-use D n → t n ≡ Some (m .means a) → Valued n (Some a)
     by-cut-sum : {a : Q} → Is D (read-set t) Observable n → plant.Cut-sum (m .group) D t n (m .means a) → Valued n (Some a)
     no-amount : Is D (read-set t) Unobservable n → Valued n None
 
+  -- the amount of stream k + 1 at place k
   pub record Written (n : ℕ) (f : ℕ → m .group .Element) (old new : ℕ → Option Q) : Type 0 where
     pub possible : Possible-but (m .group) D n t f
-    pub held : (k : ℕ) → In-use D (suc k) → (a : Q) × (new k ≡ Some a) × (m .means a ≡ f (suc k))
+    pub amounts : (k : ℕ) → In-use D (suc k) → (a : Q) × (new k ≡ Some a) × (m .means a ≡ f (suc k))
     pub kept : (k : ℕ) → ¬ In-use D (suc k) → new k ≡ old k
 
   pub record Rivalled (n : ℕ) (old-first new-first old-second new-second : ℕ → Option Q) : Type 0 where
@@ -116,12 +121,12 @@ module _ {Q : Type 0} (m : Model Q) (D : Drawing) (t : ℕ → Option (m .group 
     pub second : Written n other old-second new-second
     pub differ : ¬ (one n ≡ other n)
 
-  -- The lowest unit whose part lacks the surroundings and has a net amount other than zero; 1 at the units of that part.
+  -- the lowest unit whose part is in dispute; 1 at the units of that part, 0 at the other units that a plant may have
   pub record Disputed (old : ℕ → Option ℕ) (answer : Q) (new : ℕ → Option ℕ) : Type 0 where
     pub lowest : ℕ
     pub part : ℕ → Bool
-    pub uneven : plant.Uneven (m .group) D t lowest part
-    pub none-lower : (v : ℕ) (C : ℕ → Bool) → plant.Uneven (m .group) D t v C → lowest ≤ v
+    pub in-dispute : plant.In-dispute (m .group) D t lowest part
+    pub none-lower : (v : ℕ) (C : ℕ → Bool) → plant.In-dispute (m .group) D t v C → lowest ≤ v
     pub marked : (w : ℕ) → w < unit-places → Joined D (Unread D (read-set t)) lowest w → new w ≡ Some 1
     pub unmarked : (w : ℕ) → w < unit-places → ¬ Joined D (Unread D (read-set t)) lowest w → new w ≡ Some 0
     pub kept : (w : ℕ) → unit-places ≤ w → new w ≡ old w

@@ -5,14 +5,17 @@
 -- at-number d xs n          what the list xs has at number n, or d
 -- plan row                  the drawing of a worked plant
 -- shown-readings m row      its readings, as what they mean
--- classes-over, flow-over, marks-over   a table with what the row shows written over what it had
--- Shown m row               for all tables that are long enough, what the row shows is what the four questions give
+-- classes-over, marks-over   a table with the classes or marks that the row shows, written over what it had
+-- flow-over D xs old         .. with the amounts xs at the places of streams in use
+-- first-over, second-over    .. with the first or the second flow of an accepted rival
+-- Shown m row               the row is a plant, and for all tables that are long enough it shows what the four questions give
 -- Right w                   .. for a worked plant of either quantity
 use mathlib.Core.Bool.{Bool, true, false, cond}
-use mathlib.Core.List.{List, [], _∷_}
+use mathlib.Core.List.{List}
 use Prim.Native.Nat.{ℕ, zero, suc, _≤_, _<_}
 use lib.Dec.{ltb}
 use lib.ListN.{getD}
+use Rattle.std.specs.Runs.{nth}
 use Rattle.std.specs.declared.option.Option.{Option}
 use Rattle.std.specs.declared.option.Option.the-variants.{None, Some}
 use Rattle.std.specs.declared.result.Result.{Result}
@@ -31,18 +34,13 @@ use Rattle.flows.specs.declared.worked.Worked.{Worked}
 use Rattle.flows.specs.declared.worked.Worked.the-variants.{OfMasses, OfTotalisers}
 use Rattle.flows.specs.declared.worked.WorkedPlant.{WorkedPlant}
 use Rattle.flows.specs.Drawings.{Drawing, Within}
-use Rattle.flows.specs.Plants.{last-number, drawing, readings-of}
+use Rattle.flows.specs.Plants.{last-unit, last-number, drawing, readings-of}
 use Rattle.flows.specs.Refusals.{accepted}
 use Rattle.flows.specs.Questions.{meant, unit-places, Surveys, Values, Rivals, Disputes}
 
 abbrev pub at-number : {X : Type 0} → X → List X → ℕ → X
 at-number d xs zero = d
 at-number d xs (suc k) = getD xs k d
-
-abbrev pub place : {X : Type 0} → List X → ℕ → Option X
-place [] k = None
-place (x ∷ xs) zero = Some x
-place (x ∷ xs) (suc k) = place xs k
 
 abbrev pub plan : {Q : Type 0} → WorkedPlant Q → Drawing
 plan row = drawing (row .units) (at-number None (row .ends))
@@ -55,7 +53,7 @@ classes-over (Ok s) old k = cond (ltb k last-number) (Some (byte (getD (s .class
 classes-over (Err f) old k = old k
 
 abbrev pub flow-over : {Q : Type 0} → Drawing → List Q → (ℕ → Option Q) → ℕ → Option Q
-flow-over D xs old k = cond (D .used (suc k)) (place xs k) (old k)
+flow-over D xs old k = cond (D .used (suc k)) (nth xs k) (old k)
 
 abbrev pub first-over : {Q : Type 0} → Drawing → Result (Flows Q) QuestionFault → (ℕ → Option Q) → ℕ → Option Q
 first-over D (Ok f) old k = flow-over D (f .first) old k
@@ -71,6 +69,7 @@ marks-over (Err f) old w = old w
 
 -- What the row shows for number k + 1 stands at place k; a number past its lists is not in use.
 pub record Shown {Q : Type 0} (m : Model Q) (row : WorkedPlant Q) : Type 0 where
+  pub units : row .units ≤ last-unit
   pub within : Within (plan row)
   pub survey : (places : ℕ) → last-number ≤ places → (old : ℕ → Option ℕ)
       → Surveys m (plan row) (shown-readings m row) places old (accepted (λ s. s .counts) (row .survey)) (classes-over (row .survey) old)

@@ -6,7 +6,7 @@
 -- every p               p holds of each refusal
 -- none-fits fits        no refusal fits
 -- smallest fits f       f fits, and none with a smaller number does
--- right w               the row shows what the definitions give
+-- passes w               the row shows what the definitions give
 -- all-right ws          .. each row
 use mathlib.Core.Bool.{Bool, true, false, not, cond, _&&_, _||_}
 use mathlib.Core.List.{List, [], _∷_, map}
@@ -17,13 +17,12 @@ use Rattle.std.specs.declared.option.Option.{Option}
 use Rattle.std.specs.declared.option.Option.the-variants.{None, Some}
 use Rattle.std.specs.declared.result.Result.{Result}
 use Rattle.std.specs.declared.result.Result.the-variants.{Ok, Err}
-use Rattle.std.specs.shelf.Lawful.{all-pass}
 use Rattle.quantity.specs.Masses.{mass-model}
 use Rattle.quantity.specs.Model.{Model}
 use Rattle.quantity.specs.Totalisers.{modulus, totaliser-model}
 use Rattle.flows.specs.Classes.{byte}
 use Rattle.flows.specs.Comparisons.{Comparison, compare-residues}
-use Rattle.flows.specs.Decisions.{class, part, even, all-even, consistent, cut-sum}
+use Rattle.flows.specs.Decisions.{class, part, undisputed, all-undisputed, consistent, cut-sum}
 use Rattle.flows.specs.declared.class.Class.{Class}
 use Rattle.flows.specs.declared.class.Class.the-variants.{OutOfUse, Observable, Unobservable, Redundant, JustMeasured}
 use Rattle.flows.specs.declared.ends.Ends.{Ends}
@@ -37,8 +36,8 @@ use Rattle.flows.specs.declared.worked.Worked.the-variants.{OfMasses, OfTotali
 use Rattle.flows.specs.declared.worked.WorkedPlant.{WorkedPlant}
 use Rattle.flows.specs.Drawings.{Drawing}
 use Rattle.flows.specs.Flows.{total-below, read-set, readings, net-below}
-use Rattle.flows.specs.Plants.{last-number}
-use Rattle.flows.specs.Questions.{tally}
+use Rattle.flows.specs.Plants.{last-unit, last-number}
+use Rattle.flows.specs.Questions.{how-many}
 use Rattle.flows.specs.Refusals.{number}
 use Rattle.flows.specs.Worked.{at-number, plan, shown-readings}
 
@@ -79,18 +78,18 @@ module _ {Q : Type 0} (m : Model Q) (s : Comparison (m .group)) (row : WorkedPla
   abbrev pub top : ℕ
   top = suc (length (row .ends))
 
-  abbrev pub steady : Bool
-  steady = consistent (m .group) s D t top
+  abbrev pub is-consistent : Bool
+  is-consistent = consistent (m .group) s D t top
 
   abbrev pub has-class : Class → ℕ → Bool
   has-class c n = eqb (byte (class D (read-set t) top n)) (byte c)
 
   abbrev pub shape : Bool
-  shape = leb (length (row .ends)) last-number && (eqb (length (row .value)) (length (row .ends)) && (eqb (length (row .rival)) (length (row .ends))
-      && all-below (λ k. within-test (row .units) (getD (row .ends) k None)) (length (row .ends))))
+  shape = leb (row .units) last-unit && (leb (length (row .ends)) last-number && (eqb (length (row .value)) (length (row .ends)) && (eqb (length (row .rival)) (length (row .ends))
+      && all-below (λ k. within-test (row .units) (getD (row .ends) k None)) (length (row .ends)))))
 
   abbrev pub survey-fits : QuestionFault → Bool
-  survey-fits Inconsistent = not steady
+  survey-fits Inconsistent = not is-consistent
   survey-fits NumberOutside = false
   survey-fits TableTooShort = false
   survey-fits NotInUse = false
@@ -99,7 +98,7 @@ module _ {Q : Type 0} (m : Model Q) (s : Comparison (m .group)) (row : WorkedPla
 
   abbrev pub value-fits : ℕ → QuestionFault → Bool
   value-fits n NotInUse = not (D .used n)
-  value-fits n Inconsistent = not steady
+  value-fits n Inconsistent = not is-consistent
   value-fits n NumberOutside = false
   value-fits n TableTooShort = false
   value-fits n Determined = false
@@ -107,14 +106,14 @@ module _ {Q : Type 0} (m : Model Q) (s : Comparison (m .group)) (row : WorkedPla
 
   abbrev pub rival-fits : ℕ → QuestionFault → Bool
   rival-fits n NotInUse = not (D .used n)
-  rival-fits n Inconsistent = not steady
+  rival-fits n Inconsistent = not is-consistent
   rival-fits n Determined = has-class Observable n || has-class Redundant n
   rival-fits n NumberOutside = false
   rival-fits n TableTooShort = false
   rival-fits n Consistent = false
 
   abbrev pub dispute-fits : QuestionFault → Bool
-  dispute-fits Consistent = steady
+  dispute-fits Consistent = is-consistent
   dispute-fits NumberOutside = false
   dispute-fits TableTooShort = false
   dispute-fits NotInUse = false
@@ -122,10 +121,10 @@ module _ {Q : Type 0} (m : Model Q) (s : Comparison (m .group)) (row : WorkedPla
   dispute-fits Determined = false
 
   abbrev pub counted : Survey → ℕ → ℕ
-  counted v b = tally (λ k. eqb (byte (getD (v .classes) k OutOfUse)) b) (length (v .classes))
+  counted v b = how-many (λ k. eqb (byte (getD (v .classes) k OutOfUse)) b) (length (v .classes))
 
   abbrev pub survey-right : Result Survey QuestionFault → Bool
-  survey-right (Ok v) = none-fits survey-fits && (steady && (eqb (length (v .classes)) (length (row .ends))
+  survey-right (Ok v) = none-fits survey-fits && (is-consistent && (eqb (length (v .classes)) (length (row .ends))
       && (all-below (λ k. has-class (getD (v .classes) k OutOfUse) (suc k)) (length (row .ends))
       && (eqb (v .counts .0) (counted v 1) && (eqb (v .counts .1) (counted v 2) && (eqb (v .counts .2) (counted v 3) && eqb (v .counts .3) (counted v 4)))))))
   survey-right (Err f) = smallest survey-fits f
@@ -136,8 +135,8 @@ module _ {Q : Type 0} (m : Model Q) (s : Comparison (m .group)) (row : WorkedPla
   reads None x = false
 
   abbrev pub value-right : ℕ → Result (Option Q) QuestionFault → Bool
-  value-right n (Ok (Some a)) = none-fits (value-fits n) && (steady && (reads (t n) (m .means a) || (has-class Observable n && s .same (cut-sum (m .group) s D t top n) (m .means a))))
-  value-right n (Ok None) = none-fits (value-fits n) && (steady && has-class Unobservable n)
+  value-right n (Ok (Some a)) = none-fits (value-fits n) && (is-consistent && (reads (t n) (m .means a) || (has-class Observable n && s .same (cut-sum (m .group) D t top n) (m .means a))))
+  value-right n (Ok None) = none-fits (value-fits n) && (is-consistent && has-class Unobservable n)
   value-right n (Err f) = smallest (value-fits n) f
 
   -- the flow that a list of amounts shows
@@ -151,15 +150,15 @@ module _ {Q : Type 0} (m : Model Q) (s : Comparison (m .group)) (row : WorkedPla
   abbrev pub flow-right : ℕ → List Q → Bool
   flow-right n xs = eqb (length xs) (length (row .ends))
       && (all-below (λ v. s .same (total-below (m .group) D top (λ k. eqb (D .to k) (suc v)) (flow-of xs)) (total-below (m .group) D top (λ k. eqb (D .from k) (suc v)) (flow-of xs))) (row .units)
-      && all-below (λ k. eqb (suc k) n || allows (t (suc k)) (flow-of xs (suc k))) (length (row .ends)))
+      && all-below (λ k. eqb (suc k) n || (not (D .used (suc k)) || allows (t (suc k)) (flow-of xs (suc k)))) (length (row .ends)))
 
   abbrev pub rival-right : ℕ → Result (Flows Q) QuestionFault → Bool
-  rival-right n (Ok f) = none-fits (rival-fits n) && (steady && (flow-right n (f .first) && (flow-right n (f .second) && not (s .same (flow-of (f .first) n) (flow-of (f .second) n)))))
+  rival-right n (Ok f) = none-fits (rival-fits n) && (is-consistent && (flow-right n (f .first) && (flow-right n (f .second) && not (s .same (flow-of (f .first) n) (flow-of (f .second) n)))))
   rival-right n (Err f) = smallest (rival-fits n) f
 
   abbrev pub dispute-right : Result (Dispute Q) QuestionFault → Bool
   dispute-right (Ok d) = none-fits dispute-fits && (ltb (row .units) (length (d .marks)) && (leb (first-mark (d .marks)) (row .units)
-      && (not (even (m .group) s D t top (first-mark (d .marks))) && (all-even (m .group) s D t top (first-mark (d .marks))
+      && (not (undisputed (m .group) s D t top (first-mark (d .marks))) && (all-undisputed (m .group) s D t top (first-mark (d .marks))
       && (all-below (λ w. same-mark (getD (d .marks) w false) (leb w (row .units) && part D (read-set t) top (first-mark (d .marks)) w)) (length (d .marks))
       && s .same (m .means (d .net)) (net-below (m .group) D top (part D (read-set t) top (first-mark (d .marks))) (readings (m .group) t)))))))
   dispute-right (Err f) = smallest dispute-fits f
@@ -168,9 +167,6 @@ module _ {Q : Type 0} (m : Model Q) (s : Comparison (m .group)) (row : WorkedPla
   row-right = shape && (survey-right (row .survey) && (all-below (λ k. value-right (suc k) (getD (row .value) k (Err NotInUse))) (length (row .ends))
       && (all-below (λ k. rival-right (suc k) (getD (row .rival) k (Err NotInUse))) (length (row .ends)) && dispute-right (row .dispute))))
 
-abbrev pub right : Worked → Bool
-right (OfMasses row) = row-right mass-model (compare-residues (2 ^ 64) (lit< tt)) row
-right (OfTotalisers row) = row-right totaliser-model (compare-residues modulus (lit< tt)) row
-
-abbrev pub all-right : List Worked → Bool
-all-right ws = all-pass right ws
+abbrev pub passes : Worked → Bool
+passes (OfMasses row) = row-right mass-model (compare-residues (2 ^ 64) (lit< tt)) row
+passes (OfTotalisers row) = row-right totaliser-model (compare-residues modulus (lit< tt)) row

@@ -2,18 +2,18 @@
 ghost use mathlib.Core.Path.{_≡_};
 ghost use Rattle.flows.specs.Classes.{byte};
 
-/// What the readings let anyone know of a stream.
+/// The class of a stream number: what the drawing and the set of read streams let anyone know of it.
 #[derive(Clone, Copy, PartialEq, Eq, Debug)]
 pub enum Class {
     /// The number is not in use.
     OutOfUse,
-    /// Unread, and the balances force its amount.
+    /// Unread, and on no closed path of unread streams: the balances force its amount.
     Observable,
-    /// Unread, and the balances leave its amount open.
+    /// Unread, and on a closed path of unread streams: the balances leave its amount open.
     Unobservable,
-    /// Read, and the other readings force its amount.
+    /// Read, with its ends in different parts: the other readings confirm its own.
     Redundant,
-    /// Read, and only its own meter tells its amount.
+    /// Read, with its ends in one part: only its own meter tells its amount.
     JustMeasured,
 }
 

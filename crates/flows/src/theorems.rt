@@ -1,10 +1,11 @@
 //! What is true of every drawing, every table of readings and every flow, for every quantity.
 //!
-//! The functions do nothing. Each has a theorem as its contract, so that the crate is proved only if the theorem is.
+//! The functions do nothing. Each has a theorem as its contract, so that the crate is proved only if the theorem is. The
+//! statements are in `specs/Theorems.antt`, and `docs/THEORY.md` has the idea of each proof.
 ghost use Rattle.quantity.specs.Masses.{mass-model, components-model};
 ghost use Rattle.quantity.specs.Totalisers.{totaliser-model};
 ghost use Rattle.flows.specs.Comparisons.{Comparison};
-ghost use Rattle.flows.specs.Theorems.{Balanced-flows-have-no-net, Some-flow-exactly-if-consistent, Some-flow-exactly-if-not-inconsistent, Conflict-excludes-flows, Conflict-exactly-if-no-flow, Zero-or-anything, Observable-carries-its-cut-sum, Redundant-carries-one-amount, Unobservable-carries-anything, Just-measured-carries-anything, On-a-path-exactly-if-linked, Decisions-are-right, Survey-answers-agree, Value-answers-agree, Dispute-answers-agree, Exactly-one-class};
+ghost use Rattle.flows.specs.Theorems.{Balanced-flows-have-no-net, Some-flow-exactly-if-consistent, Conflict-excludes-flows, Flow-or-conflict, Conflict-exactly-if-no-flow, Zero-or-anything, Two-sides, Observable-carries-its-cut-sum, Redundant-carries-one-amount, Unobservable-carries-anything, Just-measured-carries-anything, On-a-path-exactly-if-linked, Exactly-one-class, Decisions-are-right, Survey-answers-agree, Value-answers-agree, Rival-answers-agree, Dispute-answers-agree};
 use quantity::Quantity;
 
 /// A balanced flow has net zero over every set of places, with or without the surroundings.
@@ -12,35 +13,44 @@ pub fn balanced_flows_have_no_net<Q: Quantity>()
     ensures { λ _. ⌜ Balanced-flows-have-no-net (model .group) ⌝ }
 {}
 
-/// Some balanced flow agrees with the readings exactly if each part without the surroundings has the net amount zero.
+/// Some balanced flow agrees with the readings exactly if each part without the surroundings has the net amount zero; where
+/// each has, the flow is constructed.
 pub fn some_flow_exactly_if_consistent<Q: Quantity>()
     ensures { λ _. ⌜ Some-flow-exactly-if-consistent (model .group) ⌝ }
 {}
 
-/// Where amounts can be told apart: some balanced flow agrees exactly if the plant is not inconsistent.
-pub fn some_flow_exactly_if_not_inconsistent<Q: Quantity>()
-    ensures { λ _. ⌜ Some-flow-exactly-if-not-inconsistent (model .group) ⌝ }
-{}
-
-/// Where only read streams cross a set of units and its net amount is not zero, no balanced flow agrees.
+/// Where only read streams cross a set of units without the surroundings and its net amount is not zero, no balanced flow
+/// agrees.
 pub fn conflict_excludes_flows<Q: Quantity>()
     ensures { λ _. ⌜ Conflict-excludes-flows (model .group) ⌝ }
 {}
 
-/// Where amounts can be told apart: there is such a set exactly if no balanced flow agrees.
+/// It cannot be that no balanced flow agrees and there is no such set, nor that none agrees and the plant is not
+/// inconsistent.
+pub fn flow_or_conflict<Q: Quantity>()
+    ensures { λ _. ⌜ Flow-or-conflict (model .group) ⌝ }
+{}
+
+/// Where amounts can be told apart by a test: there is such a set exactly if no balanced flow agrees, and some balanced flow
+/// agrees exactly if the plant is not inconsistent.
 pub fn conflict_exactly_if_no_flow<Q: Quantity>()
     ensures { λ _. ⌜ Conflict-exactly-if-no-flow (model .group) ⌝ }
 {}
 
-/// What masses, totalisers and components mean can be told apart by a test, as the theorems that ask for one want.
+/// What masses, totalisers and components mean can be told apart by a test, as the theorem before asks.
 pub fn amounts_can_be_told_apart()
     ensures { λ _. ⌜ Comparison (mass-model .group) × Comparison (totaliser-model .group) × Comparison (components-model .group) ⌝ }
 {}
 
-/// Of the balanced flows that are zero on a set of streams: all are zero at a stream outside it, or it may carry anything.
-/// Which of the two is decided by whether streams outside the set, other than itself, join its ends.
+/// Of the balanced flows that are zero on a set of streams: at a stream in use outside it all are zero, or it may carry
+/// anything. Which of the two is decided by whether streams outside the set, other than itself, join its ends.
 pub fn zero_or_anything<Q: Quantity>()
     ensures { λ _. ⌜ Zero-or-anything (model .group) ⌝ }
+{}
+
+/// Without an observable stream its part falls into two sides: each place of the part is on one, and none on both.
+pub fn two_sides()
+    ensures { λ _. ⌜ Two-sides ⌝ }
 {}
 
 /// An observable stream has a cut sum, and carries it in every balanced flow that agrees.
@@ -53,12 +63,13 @@ pub fn redundant_carries_one_amount<Q: Quantity>()
     ensures { λ _. ⌜ Redundant-carries-one-amount (model .group) ⌝ }
 {}
 
-/// Where some balanced flow agrees, an unobservable stream carries any given amount in one of them.
+/// Where some balanced flow agrees, for each amount one of them carries it at an unobservable stream.
 pub fn unobservable_carries_anything<Q: Quantity>()
     ensures { λ _. ⌜ Unobservable-carries-anything (model .group) ⌝ }
 {}
 
-/// A just-measured stream carries any given amount in one of the balanced flows that agree with the other readings.
+/// For each amount, one of the balanced flows that agree with the other readings carries it at a just-measured stream,
+/// where there is such a flow.
 pub fn just_measured_carries_anything<Q: Quantity>()
     ensures { λ _. ⌜ Just-measured-carries-anything (model .group) ⌝ }
 {}
@@ -68,7 +79,12 @@ pub fn on_a_path_exactly_if_linked()
     ensures { λ _. ⌜ On-a-path-exactly-if-linked ⌝ }
 {}
 
-/// The class, the consistency and the cut sum that `specs/Decisions.antt` computes are those of the definitions.
+/// Every stream number has exactly one class.
+pub fn exactly_one_class()
+    ensures { λ _. ⌜ Exactly-one-class ⌝ }
+{}
+
+/// The class, the cut sum and the consistency that `specs/Decisions.antt` computes are those of the definitions.
 pub fn decisions_are_right<Q: Quantity>()
     ensures { λ _. ⌜ Decisions-are-right (model .group) ⌝ }
 {}
@@ -83,12 +99,13 @@ pub fn value_answers_agree<Q: Quantity>()
     ensures { λ _. ⌜ Value-answers-agree model ⌝ }
 {}
 
+/// The definitions leave open which flows rival writes, but not whether it is accepted, which number refuses it, or what
+/// the places of numbers out of use then hold.
+pub fn rival_answers_agree<Q: Quantity>()
+    ensures { λ _. ⌜ Rival-answers-agree model ⌝ }
+{}
+
 /// The definitions leave dispute one answer, by what it means, and one table of marks.
 pub fn dispute_answers_agree<Q: Quantity>()
     ensures { λ _. ⌜ Dispute-answers-agree model ⌝ }
-{}
-
-/// Every stream number has exactly one class.
-pub fn exactly_one_class()
-    ensures { λ _. ⌜ Exactly-one-class ⌝ }
 {}

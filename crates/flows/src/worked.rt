@@ -6,7 +6,7 @@ ghost use mathlib.Core.Bool.{true};
 ghost use mathlib.Core.Path.{_≡_};
 ghost use Rattle.std.specs.shelf.Lists.{All};
 ghost use Rattle.flows.specs.Worked.{Right};
-ghost use Rattle.flows.specs.WorkedTests.{right};
+ghost use Rattle.flows.specs.WorkedTests.{passes};
 use crate::class::Class;
 use crate::class::Class::JustMeasured;
 use crate::class::Class::Observable;
@@ -72,7 +72,7 @@ pub enum Worked {
 
 /// Hands back a plant that shows what the definitions give on it.
 fn checked(plant: Worked) -> Worked
-    requires { ⌜ right plant ≡ true ⌝ }
+    requires { ⌜ passes plant ≡ true ⌝ }
     ensures { λ r. ⌜ Right r ⌝ }
 {
     plant
@@ -116,8 +116,8 @@ fn twin() -> Worked
                 first: [Mass(100), Mass(100), Mass(0), Mass(100), Mass(100)],
                 second: [Mass(100), Mass(30), Mass(70), Mass(100), Mass(100)],
             }),
-            Err(Determined), // stream 4 is observable
-            Err(Determined), // stream 5 is redundant
+            Err(Determined),
+            Err(Determined),
         ],
         dispute: Err(Consistent),
     }))
@@ -160,9 +160,9 @@ fn twin_in_dispute() -> Worked
     }))
 }
 
-/// Twin with stream 5 isolated: only the meter of stream 1 is left, and all else follows from it.
+/// Twin with stream 5 isolated: the meter of stream 1 is the only one left, and 4 and 5 follow from it.
 ///
-/// Stream 1 lies inside one part with the surroundings, and its reading is not redundant because that part balances.
+/// All units are then in one part with unit 0. That this part balances does not make the reading of stream 1 redundant.
 fn twin_with_5_isolated() -> Worked
     ensures { λ r. ⌜ Right r ⌝ }
 {
@@ -235,7 +235,7 @@ fn dead_end() -> Worked
             Err(NotInUse),
         ],
         rival: [
-            Err(Determined),
+            Err(Determined), // stream 1 is observable
             Err(NotInUse),
             Err(NotInUse),
             Err(NotInUse),
@@ -313,7 +313,7 @@ fn read_loop() -> Worked
     }))
 }
 
-/// Two units, each with one metered stream to the surroundings: both are in dispute, and the lower one is named.
+/// Two units, each with one metered stream to or from unit 0: both parts are in dispute, and dispute takes the lower unit.
 fn two_in_dispute() -> Worked
     ensures { λ r. ⌜ Right r ⌝ }
 {
@@ -350,7 +350,7 @@ fn two_in_dispute() -> Worked
     }))
 }
 
-/// Two counters that together roll over, and an unread stream that carries both away.
+/// Two counters whose sum rolls over, and an unread stream that carries both amounts away.
 fn rolled_over() -> Worked
     ensures { λ r. ⌜ Right r ⌝ }
 {
@@ -423,42 +423,39 @@ fn rolled_over() -> Worked
     }))
 }
 
-/// A closed path through unit 0 counts as any other: nobody can know what goes round.
-fn through_the_surroundings() -> Worked
+/// A closed path through unit 0 counts as any other: nobody can know how much goes round.
+fn through_unit_0() -> Worked
     ensures { λ r. ⌜ Right r ⌝ }
 {
     checked(Worked::OfMasses(WorkedPlant {
-        units: 1,
+        units: 2,
         ends: [
             Some(Ends { from: 0, to: 1 }),
-            Some(Ends { from: 1, to: 0 }),
-            None,
+            Some(Ends { from: 1, to: 2 }),
+            Some(Ends { from: 2, to: 0 }),
             None,
             None,
         ],
         amounts: [None, None, None, None, None],
         isolated: [false, false, false, false, false],
         survey: Ok(Survey {
-            classes: [Unobservable, Unobservable, OutOfUse, OutOfUse, OutOfUse],
-            counts: (0, 2, 0, 0),
+            classes: [Unobservable, Unobservable, Unobservable, OutOfUse, OutOfUse],
+            counts: (0, 3, 0, 0),
         }),
-        value: [
-            Ok(None),
-            Ok(None),
-            Err(NotInUse),
-            Err(NotInUse),
-            Err(NotInUse),
-        ],
+        value: [Ok(None), Ok(None), Ok(None), Err(NotInUse), Err(NotInUse)],
         rival: [
             Ok(Flows {
                 first: [Mass(0), Mass(0), Mass(0), Mass(0), Mass(0)],
-                second: [Mass(1), Mass(1), Mass(0), Mass(0), Mass(0)],
+                second: [Mass(1), Mass(1), Mass(1), Mass(0), Mass(0)],
             }),
             Ok(Flows {
                 first: [Mass(0), Mass(0), Mass(0), Mass(0), Mass(0)],
-                second: [Mass(1), Mass(1), Mass(0), Mass(0), Mass(0)],
+                second: [Mass(1), Mass(1), Mass(1), Mass(0), Mass(0)],
             }),
-            Err(NotInUse),
+            Ok(Flows {
+                first: [Mass(0), Mass(0), Mass(0), Mass(0), Mass(0)],
+                second: [Mass(1), Mass(1), Mass(1), Mass(0), Mass(0)],
+            }),
             Err(NotInUse),
             Err(NotInUse),
         ],
@@ -466,7 +463,7 @@ fn through_the_surroundings() -> Worked
     }))
 }
 
-/// A reading inside one part without unit 0: the part balances whatever is read, so the reading is just measured.
+/// A reading inside one part without unit 0: the part balances whatever it is, so the reading is just measured.
 fn inside_one_part() -> Worked
     ensures { λ r. ⌜ Right r ⌝ }
 {
@@ -506,8 +503,53 @@ fn inside_one_part() -> Worked
     }))
 }
 
+/// A read stream between the two sides of a cut counts: 30 enter the side of unit 1, and 10 leave it by stream 4.
+///
+/// Number 1 is out of use, although the source still has a reading of it.
+fn read_across_the_cut() -> Worked
+    ensures { λ r. ⌜ Right r ⌝ }
+{
+    checked(Worked::OfMasses(WorkedPlant {
+        units: 2,
+        ends: [
+            None,
+            Some(Ends { from: 0, to: 1 }),
+            Some(Ends { from: 1, to: 2 }),
+            Some(Ends { from: 1, to: 2 }),
+            Some(Ends { from: 2, to: 0 }),
+        ],
+        amounts: [Some(Mass(7)), Some(Mass(30)), None, Some(Mass(10)), None],
+        isolated: [false, false, false, false, false],
+        survey: Ok(Survey {
+            classes: [OutOfUse, JustMeasured, Observable, JustMeasured, Observable],
+            counts: (2, 0, 0, 2),
+        }),
+        value: [
+            Err(NotInUse),
+            Ok(Some(Mass(30))),
+            Ok(Some(Mass(20))),
+            Ok(Some(Mass(10))),
+            Ok(Some(Mass(30))),
+        ],
+        rival: [
+            Err(NotInUse),
+            Ok(Flows {
+                first: [Mass(0), Mass(0), Mass(-10), Mass(10), Mass(0)],
+                second: [Mass(0), Mass(30), Mass(20), Mass(10), Mass(30)],
+            }),
+            Err(Determined),
+            Ok(Flows {
+                first: [Mass(0), Mass(30), Mass(30), Mass(0), Mass(30)],
+                second: [Mass(0), Mass(30), Mass(20), Mass(10), Mass(30)],
+            }),
+            Err(Determined),
+        ],
+        dispute: Err(Consistent),
+    }))
+}
+
 /// The worked plants, each with what survey, value, rival and dispute give on it.
-pub fn worked_plants() -> [Worked; 10]
+pub fn worked_plants() -> [Worked; 11]
     ensures { λ r. ⌜ All Right r ⌝ }
 {
     [
@@ -519,7 +561,8 @@ pub fn worked_plants() -> [Worked; 10]
         read_loop(),
         two_in_dispute(),
         rolled_over(),
-        through_the_surroundings(),
+        through_unit_0(),
         inside_one_part(),
+        read_across_the_cut(),
     ]
 }

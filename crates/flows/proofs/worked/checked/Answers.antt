@@ -1,5 +1,5 @@
-use Rattle.flows.proofs.WorkedPlants.{right-shown}
+use Rattle.flows.proofs.WorkedPlants.{passing-shown}
 use Rattle.flows.proofs.worked.checked.Needs as need
 
 pub returns : need.returns
-returns c = right-shown (c .args .plant) (c .pre)
+returns c = passing-shown (c .args .plant) (c .pre)
