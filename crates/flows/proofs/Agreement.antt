@@ -1,7 +1,7 @@
 -- The definitions leave each question one answer, rival's flows apart. Assumes nothing.
-use mathlib.Core.Bool.{Bool, true, false, cond, true≢false}
+use mathlib.Core.Bool.{true, false, cond, true≢false}
 use mathlib.Core.Logic.{_⊎_, inl, inr, ⊎-elim}
-use mathlib.Core.Path.{_≡_, refl, sym, ap, ap₂, _∙_, subst}
+use mathlib.Core.Path.{_≡_, refl, sym, ap, _∙_, subst}
 use native.Mathlib.Omega.{arith}
 use Prim.Native.Nat.{ℕ, suc, _≤_, _<_}
 use lib.Dec.{eqb}
@@ -14,18 +14,15 @@ use Rattle.std.specs.Options.{isSome}
 use Rattle.quantity.specs.Group.{Group}
 use Rattle.quantity.specs.Model.{Model}
 use Rattle.flows.specs.Classes.{Is, byte}
-use Rattle.flows.specs.Comparisons.{Comparison}
-use Rattle.flows.specs.Consistency.{Cut-sum, In-dispute}
-use Rattle.flows.specs.Decisions.{Above, part, consistent, cut-sum}
-use Rattle.flows.specs.declared.class.Class.{Class}
-use Rattle.flows.specs.declared.class.Class.the-variants.{Observable, Unobservable}
+use Rattle.flows.specs.Consistency.{Cut-sum}
+use Rattle.flows.specs.Decisions.{part, consistent, cut-sum}
 use Rattle.flows.specs.declared.fault.QuestionFault.{QuestionFault}
 use Rattle.flows.specs.declared.fault.QuestionFault.the-variants.{NumberOutside, TableTooShort, NotInUse, Inconsistent, Determined, Consistent}
-use Rattle.flows.specs.Drawings.{Drawing, In-use, Within}
+use Rattle.flows.specs.Drawings.{Drawing, Within}
 use Rattle.flows.specs.Flows.{net, read-set, readings}
 use Rattle.flows.specs.Parts.{Unread, Others, Joined, Part}
 use Rattle.flows.specs.Plants.{last-number}
-use Rattle.flows.specs.Questions.{unit-places, meant, holds, count, Surveyed, Valued, by-reading, by-cut-sum, no-amount, Rivalled, Disputed}
+use Rattle.flows.specs.Questions.{Survey-fits, Value-fits, Rival-fits, Dispute-fits, unit-places, meant, holds, count, Surveyed, Valued, by-reading, by-cut-sum, no-amount, Disputed}
 use Rattle.flows.specs.Refusals.{number, Answer, accepted}
 use Rattle.flows.specs.Theorems.{Decisions-are-right, Survey-answers-agree, Value-answers-agree, Rival-answers-agree, Dispute-answers-agree}
 use Rattle.flows.proofs.Cuts.{ends-within}
@@ -77,6 +74,19 @@ fault-of-number Consistent = refl
 one-refusal : (f g : QuestionFault) → number f ≤ number g → number g ≤ number f → f ≡ g
 one-refusal f g a b = let e : number f ≡ number g = omega arith in sym (fault-of-number f) ∙ ap fault-of e ∙ fault-of-number g
 
+-- two answers to one call are both accepted or refused alike; what is made of two accepted ones, and Z, is left to show
+module _ {T U Z : Type 0} (Fits : QuestionFault → Type 0) {Done Other : T → Type 0} {Kept Stays : Type 0} (value : T → U) where
+  agree : ((a b : T) → Done a → Other b → (value a ≡ value b) × Z) → (Kept → Stays → Z) → (r q : Result T QuestionFault)
+      → Answer number Fits Done Kept r → Answer number Fits Other Stays q → (accepted value r ≡ accepted value q) × Z
+  agree both kept (Ok a) (Ok b) x y = let z = both a b (x .1) (y .1) in (ap Ok (z .0), z .1)
+  agree both kept (Ok a) (Err g) x y = absurd (x .0 g (y .0))
+  agree both kept (Err f) (Ok b) x y = absurd (y .0 f (x .0))
+  agree both kept (Err f) (Err g) x y = (ap Err (one-refusal f g (x .1 g (y .0)) (y .1 f (x .0))), kept (x .2) (y .2))
+
+accepted-all : {T : Type 0} (r : Result T QuestionFault) → accepted (λ x. x) r ≡ r
+accepted-all (Ok x) = refl
+accepted-all (Err f) = refl
+
 module _ {Q : Type 0} (m : Model Q) (D : Drawing) (w : Within D) (t : ℕ → Option (m .group .Element)) where
   surveyed-table : (old new other : ℕ → Option ℕ) (a b : ℕ × ℕ × ℕ × ℕ) → Surveyed m D t old a new → Surveyed m D t old b other → (k : ℕ) → new k ≡ other k
   surveyed-table old new other a b x y k = ⊎-elim
@@ -110,9 +120,6 @@ module _ {Q : Type 0} (m : Model Q) (D : Drawing) (w : Within D) (t : ℕ → Op
   valued-same n None (Some b) (no-amount u) (by-cut-sum o _) = absurd (o .1 (u .1))
   valued-same n None None (no-amount _) (no-amount _) = refl
 
-  R : ℕ → Bool
-  R = read-set t
-
   -- whether unread streams join a unit to a place is decided
   joined-or-not : (v k : ℕ) → v ≤ D .units → Joined D (Unread D (read-set t)) v k ⊎ ¬ Joined D (Unread D (read-set t)) v k
   joined-or-not v k lv = ⊎-elim
@@ -143,29 +150,20 @@ module _ {Q : Type 0} (m : Model Q) (D : Drawing) (w : Within D) (t : ℕ → Op
         (cases-lt k unit-places)
 
 pub survey-answers-agree : {Q : Type 0} (m : Model Q) → Survey-answers-agree m
-survey-answers-agree m D w t places old new other (Ok a) (Ok b) x y = (ap Ok (surveyed-counts m D w t old new other a b (x .1) (y .1)), surveyed-table m D w t old new other a b (x .1) (y .1))
-survey-answers-agree m D w t places old new other (Ok a) (Err g) x y = absurd (x .0 g (y .0))
-survey-answers-agree m D w t places old new other (Err f) (Ok b) x y = absurd (y .0 f (x .0))
-survey-answers-agree m D w t places old new other (Err f) (Err g) x y = (ap Err (one-refusal f g (x .1 g (y .0)) (y .1 f (x .0))), λ k. ap (λ table. table k) (x .2 ∙ sym (y .2)))
+survey-answers-agree m D w t places old new other r q x y =
+    let a = agree (Survey-fits m D t places) (λ counts. counts) (λ a b c d. (surveyed-counts m D w t old new other a b c d, surveyed-table m D w t old new other a b c d)) (λ c d k. ap (λ table. table k) (c ∙ sym d)) r q x y in
+    (sym (accepted-all r) ∙ a .0 ∙ accepted-all q, a .1)
 
 pub value-answers-agree : {Q : Type 0} (m : Model Q) → Value-answers-agree m
-value-answers-agree m D w t n (Ok a) (Ok b) x y = ap Ok (valued-same m D w t n a b (x .1 .1) (y .1 .1))
-value-answers-agree m D w t n (Ok a) (Err g) x y = absurd (x .0 g (y .0))
-value-answers-agree m D w t n (Err f) (Ok b) x y = absurd (y .0 f (x .0))
-value-answers-agree m D w t n (Err f) (Err g) x y = ap Err (one-refusal f g (x .1 g (y .0)) (y .1 f (x .0)))
+value-answers-agree m D w t n r q x y = agree (Value-fits m D t n) (meant m) (λ a b c d. (valued-same m D w t n a b (c .1) (d .1), tt {0})) (λ _ _. tt {0}) r q x y .0
 
 pub rival-answers-agree : {Q : Type 0} (m : Model Q) → Rival-answers-agree m
-rival-answers-agree m D t n first old-first second old-second (Ok a) (Ok b) new-first new-second other-first other-second x y =
-    (refl, λ k out. (x .1 .first .kept k out ∙ sym (y .1 .first .kept k out), x .1 .second .kept k out ∙ sym (y .1 .second .kept k out)))
-rival-answers-agree m D t n first old-first second old-second (Ok a) (Err g) new-first new-second other-first other-second x y = absurd (x .0 g (y .0))
-rival-answers-agree m D t n first old-first second old-second (Err f) (Ok b) new-first new-second other-first other-second x y = absurd (y .0 f (x .0))
-rival-answers-agree m D t n first old-first second old-second (Err f) (Err g) new-first new-second other-first other-second x y = (
-  ap Err (one-refusal f g (x .1 g (y .0)) (y .1 f (x .0))),
-  λ k _. (ap (λ table. table k) (x .2 .0 ∙ sym (y .2 .0)), ap (λ table. table k) (x .2 .1 ∙ sym (y .2 .1))),
-)
+rival-answers-agree m D t n first old-first second old-second r q new-first new-second other-first other-second x y =
+    let a = agree (Rival-fits m D t n first second) (λ _. tt)
+    (λ _ _ c d. (refl, λ k out. (c .first .kept k out ∙ sym (d .first .kept k out), c .second .kept k out ∙ sym (d .second .kept k out))))
+    (λ c d k _. (ap (λ table. table k) (c .0 ∙ sym (d .0)), ap (λ table. table k) (c .1 ∙ sym (d .1)))) r q x y in
+    (sym (accepted-all r) ∙ a .0 ∙ accepted-all q, a .1)
 
 pub dispute-answers-agree : {Q : Type 0} (m : Model Q) → Dispute-answers-agree m
-dispute-answers-agree m D w t places old new other (Ok a) (Ok b) x y = (ap Ok (disputed-net m D w t old new other a b (x .1) (y .1)), disputed-table m D w t old new other a b (x .1) (y .1))
-dispute-answers-agree m D w t places old new other (Ok a) (Err g) x y = absurd (x .0 g (y .0))
-dispute-answers-agree m D w t places old new other (Err f) (Ok b) x y = absurd (y .0 f (x .0))
-dispute-answers-agree m D w t places old new other (Err f) (Err g) x y = (ap Err (one-refusal f g (x .1 g (y .0)) (y .1 f (x .0))), λ k. ap (λ table. table k) (x .2 ∙ sym (y .2)))
+dispute-answers-agree m D w t places old new other r q x y =
+    agree (Dispute-fits m D t places) (m .means) (λ a b c d. (disputed-net m D w t old new other a b c d, disputed-table m D w t old new other a b c d)) (λ c d k. ap (λ table. table k) (c ∙ sym d)) r q x y

@@ -9,9 +9,9 @@ use Rattle.std.proofs.shelf.Tests.{cases-bool, not-from-true}
 use Rattle.quantity.specs.Group.{Group}
 use Rattle.quantity.specs.Sums.{sum}
 use Rattle.quantity.proofs.GroupSums.{sum-same}
-use Rattle.flows.specs.Drawings.{Drawing, In-use, Within}
+use Rattle.flows.specs.Drawings.{Drawing, Within}
 use Rattle.flows.specs.Flows.{pick, total, arriving, departing, net, Balanced}
-use Rattle.flows.proofs.Groups.{unit-r, minus-zero, same-from-difference, made-up}
+use Rattle.flows.proofs.Groups.{minus-zero, same-from-difference, made-up}
 use Rattle.flows.proofs.Nets.{crossing, net-is, net-same, net-plus, net-from-not}
 use Rattle.flows.proofs.Sums.{sum-none, sum-plus, sum-minus, sum-pick, sum-swap, sum-one}
 

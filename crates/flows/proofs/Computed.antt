@@ -1,6 +1,5 @@
 -- The computed labels are labels. Assumes nothing.
 use mathlib.Core.Bool.{Bool, true, false, cond}
-use mathlib.Core.List.{List, map}
 use mathlib.Core.Logic.{inl, ⊎-elim}
 use mathlib.Core.Path.{_≡_, refl, sym, ap, _∙_}
 use native.Mathlib.Omega.{arith}
@@ -11,7 +10,6 @@ use lib.ListN.{length, getD}
 use Rattle.std.proofs.shelf.Counted.{length-counting, getD-counting}
 use Rattle.std.proofs.shelf.Lists.{getD-map, length-map}
 use Rattle.std.proofs.shelf.Tests.{cases-bool}
-use Rattle.std.specs.Iters.{counting}
 use Rattle.flows.specs.Decisions.{merged, labels, label}
 use Rattle.flows.specs.Drawings.{Drawing, Within}
 use Rattle.flows.specs.Labels.{Below, Labels}

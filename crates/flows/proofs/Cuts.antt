@@ -1,21 +1,19 @@
 -- What a cut says of the amount of the one stream that crosses it. Assumes nothing.
-use mathlib.Core.Bool.{Bool, true, false, not, cond, _&&_, true≢false}
+use mathlib.Core.Bool.{Bool, true, false, not, true≢false}
 use mathlib.Core.Logic.{_⊎_, inl, inr, ⊎-elim}
 use mathlib.Core.Path.{_≡_, refl, sym, ap, ap₂, _∙_}
-use native.Mathlib.Omega.{arith}
-use Prim.Native.Nat.{ℕ, _≤_, _<_}
+use Prim.Native.Nat.{ℕ, _≤_}
 use lib.Dec.{eqb}
 use Rattle.std.proofs.shelf.Tests.{cases-bool, cases-eq, eq-eqb, ne-eqb, cond-true, cond-false, and-left, and-right, not-from-true}
 use Rattle.quantity.specs.Group.{Group}
 use Rattle.flows.specs.Decisions.{unread, unread-but}
 use Rattle.flows.specs.Drawings.{Drawing, In-use, Within}
-use Rattle.flows.specs.Flows.{pick, net, Balanced, Zero-on}
-use Rattle.flows.specs.Labels.{Below}
+use Rattle.flows.specs.Flows.{pick, net, Balanced}
 use Rattle.flows.specs.Parts.{Unread, Others, here, Part, Linked}
 use Rattle.flows.specs.Theorems.{Zero-at, Anything-at}
 use Rattle.flows.proofs.Balances.{balanced-net}
-use Rattle.flows.proofs.Decisions.{above-size, fails, to-others, from-others, unread-but-used, side-is}
-use Rattle.flows.proofs.Filling.{bump, bump-other, bump-same, net-bump, fill-start, flow-exists}
+use Rattle.flows.proofs.Decisions.{above-size, fails, from-others, unread-but-used, side-is}
+use Rattle.flows.proofs.Filling.{bump, bump-other, bump-same, net-bump, flow-exists}
 use Rattle.flows.proofs.Groups.{unit-r, minus-zero, negative-only}
 use Rattle.flows.proofs.Joins.{joined-uncrossed, part-uncrossed}
 use Rattle.flows.proofs.Nets.{net-same, net-none}

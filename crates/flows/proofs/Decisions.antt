@@ -1,11 +1,11 @@
 -- The computed parts, sides, links and classes are those of the definitions. Assumes nothing.
-use mathlib.Core.Bool.{Bool, true, false, not, cond, _&&_, true≢false}
-use mathlib.Core.Logic.{_⊎_, inl, inr, ⊎-elim}
+use mathlib.Core.Bool.{Bool, true, false, not, cond, true≢false}
+use mathlib.Core.Logic.{⊎-elim}
 use mathlib.Core.Path.{_≡_, refl, sym, ap, ap₂, _∙_, subst}
 use native.Mathlib.Omega.{arith}
 use Prim.Native.Nat.{ℕ, _≤_, _<_}
 use lib.Dec.{eqb}
-use Rattle.std.proofs.shelf.Tests.{cases-bool, cases-eq, cases-lt, eq-eqb, ne-eqb, eqb-true, and-parts, and-from, and-left, not-true, not-from-true, not-from-false}
+use Rattle.std.proofs.shelf.Tests.{cases-bool, cases-lt, eq-eqb, ne-eqb, eqb-true, and-parts, and-from, and-left, not-true, not-from-false}
 use Rattle.std.specs.Orderings.{Decides}
 use Rattle.quantity.specs.Group.{Group}
 use Rattle.flows.specs.Classes.{Ends-in-one-part, Is}
@@ -14,11 +14,11 @@ use Rattle.flows.specs.declared.class.Class.{Class}
 use Rattle.flows.specs.declared.class.Class.the-variants.{OutOfUse, Observable, Unobservable, Redundant, JustMeasured}
 use Rattle.flows.specs.Drawings.{Drawing, In-use, Within}
 use Rattle.flows.specs.Flows.{pick, total-below, total, net, net-below}
-use Rattle.flows.specs.Labels.{Below, Labels}
-use Rattle.flows.specs.Parts.{Read, Unread, Others, Joined, Part, Linked}
+use Rattle.flows.specs.Labels.{Below}
+use Rattle.flows.specs.Parts.{Unread, Others, Part, Linked}
 use Rattle.flows.specs.Paths.{Closed-path}
 use Rattle.flows.proofs.Computed.{label-is}
-use Rattle.flows.proofs.Joins.{joined-map, part-map, joined-uncrossed}
+use Rattle.flows.proofs.Joins.{joined-map, part-map}
 use Rattle.flows.proofs.Merging.{labels-part}
 use Rattle.flows.proofs.Paths.{joined-from-closed-path, closed-path-from-joined}
 use Rattle.flows.proofs.Sums.{sum-short}

@@ -1,21 +1,20 @@
 -- Parts, and the sets of places that are made of them. Assumes nothing.
-use mathlib.Core.Bool.{Bool, true, false, not, cond, _&&_, _||_, true≢false}
+use mathlib.Core.Bool.{Bool, true, false, not, _&&_, true≢false}
 use mathlib.Core.Logic.{_⊎_, inl, inr, ⊎-elim}
-use mathlib.Core.Path.{_≡_, refl, sym, ap, ap₂, _∙_, subst}
+use mathlib.Core.Path.{_≡_, sym, ap, ap₂, _∙_, subst}
 use native.Mathlib.Omega.{arith}
 use Prim.Native.Nat.{ℕ, zero, suc, _≤_, _<_}
 use lib.Dec.{eqb}
 use Rattle.std.proofs.shelf.Tests.{cases-eq, cases-bool, cases-lt, and-parts, and-cases, and-left, not-true, or-cases, or-parts}
 use Rattle.std.specs.declared.option.Option.{Option}
-use Rattle.std.specs.declared.option.Option.the-variants.{None, Some}
 use Rattle.quantity.specs.Group.{Group}
 use Rattle.flows.specs.Comparisons.{Comparison}
 use Rattle.flows.specs.Consistency.{net-reading, In-dispute, Inconsistent, Consistent}
 use Rattle.flows.specs.Decisions.{Above, part, undisputed, all-undisputed, consistent}
-use Rattle.flows.specs.Drawings.{Drawing, In-use, Within}
-use Rattle.flows.specs.Flows.{net, read-set, readings, net-below}
+use Rattle.flows.specs.Drawings.{Drawing, Within}
+use Rattle.flows.specs.Flows.{net, read-set, readings}
 use Rattle.flows.specs.Labels.{Labels}
-use Rattle.flows.specs.Parts.{Unread, Joined, here, Part, Uncrossed}
+use Rattle.flows.specs.Parts.{Unread, here, Part, Uncrossed}
 use Rattle.flows.proofs.Balances.{net-empty}
 use Rattle.flows.proofs.Cuts.{ends-within}
 use Rattle.flows.proofs.Decisions.{above-size, fails, part-is, net-short}

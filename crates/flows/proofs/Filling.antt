@@ -10,7 +10,6 @@ use Prim.Native.Nat.{ℕ, zero, suc, _≤_, _<_}
 use lib.Dec.{eqb}
 use Rattle.std.proofs.shelf.Tests.{cases-bool, cases-eq, eq-eqb, ne-eqb, eqb-true, cond-true, cond-false, not-from-true, not-from-false}
 use Rattle.quantity.specs.Group.{Group}
-use Rattle.quantity.specs.Sums.{sum}
 use Rattle.quantity.proofs.GroupSums.{sum-same}
 use Rattle.flows.specs.Decisions.{label}
 use Rattle.flows.specs.Drawings.{Drawing, In-use, Within}

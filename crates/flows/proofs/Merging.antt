@@ -11,7 +11,7 @@ use lib.Dec.{eqb}
 use Rattle.std.proofs.shelf.Tests.{cases-eq, eq-eqb, ne-eqb, eqb-true, cond-true, cond-false}
 use Rattle.flows.specs.Drawings.{Drawing, In-use, Within}
 use Rattle.flows.specs.Labels.{Below, Labels}
-use Rattle.flows.specs.Parts.{Joined, here, Part, Uncrossed}
+use Rattle.flows.specs.Parts.{Joined, here, Part}
 use Rattle.flows.proofs.Joins.{joined-map, joined-trans, joined-sym, joined-ends, joined-uncrossed}
 
 -- the places with the label of v are its part

@@ -1,9 +1,9 @@
 -- The theorems about flows. Assumes nothing.
-use mathlib.Core.Bool.{Bool, true, false, not, cond, _&&_, true≢false}
+use mathlib.Core.Bool.{Bool, true, false, not, _&&_, true≢false}
 use mathlib.Core.Logic.{_⊎_, inl, inr, ⊎-elim}
 use mathlib.Core.Path.{_≡_, refl, sym, ap, ap₂, _∙_, subst}
 use native.Mathlib.Omega.{arith}
-use Prim.Native.Nat.{ℕ, _≤_, _<_}
+use Prim.Native.Nat.{ℕ, _≤_}
 use lib.Dec.{eqb}
 use Rattle.std.proofs.shelf.Tests.{cases-bool, cases-eq, cases-lt, eq-eqb, ne-eqb, and-parts, and-from, and-cases, and-left, and-right, not-true, not-from-true, not-from-false}
 use Rattle.std.specs.declared.option.Option.{Option}
@@ -11,12 +11,12 @@ use Rattle.std.specs.declared.option.Option.the-variants.{None, Some}
 use Rattle.std.specs.Options.{isSome}
 use Rattle.quantity.specs.Group.{Group}
 use Rattle.flows.specs.Classes.{Is}
-use Rattle.flows.specs.Consistency.{net-reading, Inconsistent, Consistent, Conflict, Cut-sum}
+use Rattle.flows.specs.Consistency.{net-reading, Inconsistent, Consistent, Cut-sum}
 use Rattle.flows.specs.Decisions.{Above, unread, linked, from-side, class, cut-sum}
 use Rattle.flows.specs.declared.class.Class.{Class}
 use Rattle.flows.specs.declared.class.Class.the-variants.{OutOfUse, Observable, Unobservable, Redundant, JustMeasured}
 use Rattle.flows.specs.Drawings.{Drawing, In-use, Within}
-use Rattle.flows.specs.Flows.{net, leaving, entering, Balanced, Agrees, Agrees-but, Possible, Possible-but, Some-flow, read-set, amount, readings, Zero-on}
+use Rattle.flows.specs.Flows.{net, Agrees, Possible, Possible-but, Some-flow, read-set, amount, readings}
 use Rattle.flows.specs.Parts.{Unread, Others, Joined, here, along, Part, Uncrossed, Linked}
 use Rattle.flows.specs.Theorems.{Balanced-flows-have-no-net, Some-flow-exactly-if-consistent, Some-conflict, Conflict-excludes-flows, Flow-or-conflict, Conflict-exactly-if-no-flow, Zero-or-anything, Two-sides, Observable-carries-its-cut-sum, Redundant-carries-one-amount, Unobservable-carries-anything, Just-measured-carries-anything, On-a-path-exactly-if-linked, Exactly-one-class}
 use Rattle.flows.proofs.Balances.{balanced-net, balanced-plus, balanced-difference}
@@ -24,7 +24,7 @@ use Rattle.flows.proofs.Cuts.{ends-within, side-amount, zero-at, anything-at}
 use Rattle.flows.proofs.Decisions.{above-size, from-unread, unread-used, side-is, linked-decides, class-is, class-only, net-short, linked-from-one-part, linked-from-path, path-from-linked, one-part-from-linked}
 use Rattle.flows.proofs.Evenness.{sets-even, not-both, not-neither, one-of-both}
 use Rattle.flows.proofs.Filling.{fill-start, flow-exists}
-use Rattle.flows.proofs.Groups.{inverse-l, made-up, minus-difference, same-from-difference, unit-r}
+use Rattle.flows.proofs.Groups.{made-up, minus-difference, same-from-difference, unit-r}
 use Rattle.flows.proofs.Joins.{joined-map, joined-trans, joined-sym, joined-ends, part-uncrossed}
 use Rattle.flows.proofs.Nets.{net-same}
 

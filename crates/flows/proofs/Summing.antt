@@ -6,7 +6,6 @@ use mathlib.Core.Bool.{Bool, true, false}
 use mathlib.Core.Path.{_≡_, refl, sym, ap, ap₂, _∙_}
 use Prim.Native.Nat.{ℕ, suc}
 use Rattle.quantity.specs.Group.{Group}
-use Rattle.quantity.specs.Sums.{sum}
 use Rattle.flows.specs.Drawings.{Drawing}
 use Rattle.flows.specs.Flows.{pick, total, net}
 use Rattle.flows.specs.Summing.{net-so-far}

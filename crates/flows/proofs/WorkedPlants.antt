@@ -1,29 +1,28 @@
 -- A row that passes the test shows what the definitions give. Assumes nothing.
 use mathlib.Core.Bool.{Bool, true, false, not, cond, _&&_, _||_, true≢false, false≢true}
 use mathlib.Core.List.{List, [], _∷_, map}
-use mathlib.Core.Logic.{_⊎_, inl, inr, ⊎-elim}
-use mathlib.Core.Path.{_≡_, refl, sym, ap, ap₂, _∙_, subst}
+use mathlib.Core.Logic.{inl, inr, ⊎-elim}
+use mathlib.Core.Path.{_≡_, refl, sym, ap, _∙_, subst}
 use native.Mathlib.Omega.{arith}
 use Prim.Native.Nat.{ℕ, zero, suc, _≤_, _<_, _^_}
 use lib.Dec.{eqb, leb, ltb, lit<}
 use lib.ListN.{length, getD}
 use Rattle.std.specs.Runs.{nth}
 use Rattle.std.proofs.shelf.Lists.{getD-past}
-use Rattle.std.proofs.shelf.Tests.{cases-bool, cases-eq, cases-lt, and-parts, and-from, or-cases, or-left, or-right, not-true, not-from-true, not-from-false, eqb-true, eq-eqb, ne-eqb, leb-true, le-leb, ltb-true, lt-ltb, le-ltb, cond-true, cond-false}
+use Rattle.std.proofs.shelf.Tests.{cases-bool, cases-eq, cases-lt, and-parts, and-from, or-cases, or-left, or-right, not-true, not-from-false, eqb-true, eq-eqb, ne-eqb, leb-true, le-leb, ltb-true, lt-ltb, le-ltb, cond-true, cond-false}
 use Rattle.std.specs.declared.option.Option.{Option}
 use Rattle.std.specs.declared.option.Option.the-variants.{None, Some}
 use Rattle.std.specs.declared.result.Result.{Result}
 use Rattle.std.specs.declared.result.Result.the-variants.{Ok, Err}
 use Rattle.std.specs.Options.{isSome}
 use Rattle.std.specs.Orderings.{Decides}
-use Rattle.std.specs.shelf.Lists.{All}
 use Rattle.quantity.specs.Masses.{mass-model}
 use Rattle.quantity.specs.Model.{Model}
 use Rattle.quantity.specs.Totalisers.{modulus, totaliser-model}
 use Rattle.flows.specs.Classes.{Is, byte}
 use Rattle.flows.specs.Comparisons.{Comparison, compare-residues}
 use Rattle.flows.specs.Consistency as plant
-use Rattle.flows.specs.Decisions.{Above, class, part, undisputed, all-undisputed, consistent, cut-sum}
+use Rattle.flows.specs.Decisions.{Above, part, undisputed, all-undisputed, consistent, cut-sum}
 use Rattle.flows.specs.declared.class.Class.{Class}
 use Rattle.flows.specs.declared.class.Class.the-variants.{OutOfUse, Observable, Unobservable, Redundant, JustMeasured}
 use Rattle.flows.specs.declared.ends.Ends.{Ends}
@@ -36,15 +35,15 @@ use Rattle.flows.specs.declared.worked.Worked.{Worked}
 use Rattle.flows.specs.declared.worked.Worked.the-variants.{OfMasses, OfTotalisers}
 use Rattle.flows.specs.declared.worked.WorkedPlant.{WorkedPlant}
 use Rattle.flows.specs.Drawings.{Drawing, In-use, Within}
-use Rattle.flows.specs.Flows.{total-below, arriving, departing, Possible-but, read-set, readings, net-below}
+use Rattle.flows.specs.Flows.{total-below, arriving, departing, read-set, readings}
 use Rattle.flows.specs.Parts.{Unread, Joined}
-use Rattle.flows.specs.Plants.{last-unit, last-number, Number, from-unit, to-unit}
-use Rattle.flows.specs.Questions.{unit-places, holds, count, Survey-fits, Value-fits, Rival-fits, Dispute-fits, Surveyed, Valued, by-reading, by-cut-sum, no-amount, Written, Rivalled, Disputed, Surveys, Values, Rivals, Disputes}
+use Rattle.flows.specs.Plants.{last-unit, last-number, from-unit, to-unit}
+use Rattle.flows.specs.Questions.{unit-places, holds, count, Survey-fits, Value-fits, Rival-fits, Dispute-fits, by-reading, by-cut-sum, no-amount, Written, Surveys, Values, Rivals, Disputes}
 use Rattle.flows.specs.Refusals.{number, accepted}
-use Rattle.flows.specs.Worked.{at-number, plan, shown-readings, classes-over, flow-over, first-over, second-over, marks-over, Shown, Right}
+use Rattle.flows.specs.Worked.{plan, shown-readings, classes-over, flow-over, first-over, second-over, marks-over, Shown, Right}
 use Rattle.flows.specs.WorkedTests.{all-below, every, none-fits, smallest, within-test, same-mark, first-mark, top, is-consistent, has-class, shape, survey-fits, value-fits, rival-fits, dispute-fits, counted, survey-right, reads, value-right, flow-of, allows, flow-right, rival-right, dispute-right, row-right, passes}
 use Rattle.flows.proofs.Cuts.{ends-within}
-use Rattle.flows.proofs.Decisions.{fails, part-is, side-is, class-is, class-only, total-short, net-short}
+use Rattle.flows.proofs.Decisions.{fails, part-is, class-is, class-only, total-short, net-short}
 use Rattle.flows.proofs.Results.{cut-sum-is}
 use Rattle.flows.proofs.Evenness.{undisputed-part, disputed-part, all-undisputed-each, consistent-if, inconsistent-if, not-both}
 use Rattle.flows.proofs.Joins.{joined-within}
@@ -88,6 +87,15 @@ module _ (fits : QuestionFault → Bool) (Fits : QuestionFault → Type 0) (deci
             (λ e. leb-true (number f) (number g) e)
             (or-cases (not (fits g)) _ (every-each (λ g. not (fits g) || leb (number f) (number g)) (parts .1) g)),
       )
+
+-- where neither 1 nor 3 fits, no number below 22 does
+least : (Fits : QuestionFault → Type 0) → ¬ Fits NumberOutside → ¬ Fits TableTooShort → (g : QuestionFault) → Fits g → 22 ≤ number g
+least Fits a b NumberOutside y = absurd (a y)
+least Fits a b TableTooShort y = absurd (b y)
+least Fits a b NotInUse y = omega arith
+least Fits a b Inconsistent y = omega arith
+least Fits a b Determined y = omega arith
+least Fits a b Consistent y = omega arith
 
 never : {P : Type 0} → ¬ P → Decides false P
 never not-so = (λ e. absurd (false≢true e), λ y. absurd (not-so y))
@@ -249,15 +257,7 @@ module _ {Q : Type 0} (m : Model Q) (s : Comparison (m .group)) (row : WorkedPla
   unlisted k past us = let l = listed k (us .1) in omega arith
 
   value-past : (k : ℕ) → k < last-number → length (row .ends) ≤ k → Values m D t (suc k) (Err NotInUse)
-  value-past k lt past = (unlisted k past, least, tt)
-    where
-      least : (g : QuestionFault) → Value-fits m D t (suc k) g → 22 ≤ number g
-      least NumberOutside out = absurd (out (omega arith, omega arith))
-      least TableTooShort y = absurd y
-      least NotInUse y = omega arith
-      least Inconsistent y = omega arith
-      least Determined y = absurd y
-      least Consistent y = absurd y
+  value-past k lt past = (unlisted k past, least (Value-fits m D t (suc k)) (λ out. out (omega arith, omega arith)) (λ y. y), tt)
 
   survey-shown : (r : Result Survey QuestionFault) → survey-right m s row r ≡ true → (places : ℕ) → last-number ≤ places → (old : ℕ → Option ℕ)
       → Surveys m D t places old (accepted (λ v. v .counts) r) (classes-over r old)
@@ -382,15 +382,8 @@ module _ {Q : Type 0} (m : Model Q) (s : Comparison (m .group)) (row : WorkedPla
 
   rival-past : (k : ℕ) → k < last-number → length (row .ends) ≤ k → (first second : ℕ) → last-number ≤ first → last-number ≤ second → (old-first old-second : ℕ → Option Q)
       → Rivals m D t (suc k) first old-first second old-second (Err NotInUse) old-first old-second
-  rival-past k lt past first second lf ls old-first old-second = (unlisted k past, least, (refl, refl))
-    where
-      least : (g : QuestionFault) → Rival-fits m D t (suc k) first second g → 22 ≤ number g
-      least NumberOutside out = absurd (out (omega arith, omega arith))
-      least TableTooShort y = absurd (⊎-elim (λ l. omega arith) (λ l. omega arith) y)
-      least NotInUse y = omega arith
-      least Inconsistent y = omega arith
-      least Determined y = omega arith
-      least Consistent y = absurd y
+  rival-past k lt past first second lf ls old-first old-second =
+      (unlisted k past, least (Rival-fits m D t (suc k) first second) (λ out. out (omega arith, omega arith)) (λ y. ⊎-elim (λ l. omega arith) (λ l. omega arith) y), (refl, refl))
 
   rival-shown : (k : ℕ) → k < last-number → (r : Result (Flows Q) QuestionFault) → rival-right m s row (suc k) r ≡ true → (first second : ℕ) → last-number ≤ first → last-number ≤ second → (old-first old-second : ℕ → Option Q)
       → Rivals m D t (suc k) first old-first second old-second (accepted (λ _. tt) r) (first-over D r old-first) (second-over D r old-second)

@@ -3,13 +3,13 @@
 -- Comparison G           a test for sameness of elements, and that it is right
 -- compare-residues m h   residues modulo m are compared as numbers
 -- compare-pairs a b      pairs are compared part by part
-use mathlib.Core.Bool.{Bool, true, _&&_}
-use mathlib.Core.Path.{_≡_, ap, refl}
+use mathlib.Core.Bool.{Bool, _&&_}
+use mathlib.Core.Path.{_≡_, ap}
 use Prim.Native.Nat.{ℕ, _<_}
 use lib.Dec.{eqb}
 use Rattle.std.specs.Orderings.{Decides}
 use Rattle.quantity.specs.Group.{Group, product}
-use Rattle.quantity.specs.Modulo.{Residue, residue-path, modulo}
+use Rattle.quantity.specs.Modulo.{residue-path, modulo}
 use borrow.Author.Tests.{eqb-true, eq-eqb}
 use Rattle.std.proofs.shelf.Tests.{and-parts, and-from}
 

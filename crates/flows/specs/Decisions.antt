@@ -19,7 +19,7 @@
 -- undisputed G s D t m v      whether the part of v has place 0, or the net amount zero
 -- all-undisputed G s D t m n  .. for each unit below n
 -- consistent G s D t m        .. for every unit
-use mathlib.Core.Bool.{Bool, true, false, not, cond, _&&_, _||_}
+use mathlib.Core.Bool.{Bool, true, not, cond, _&&_, _||_}
 use mathlib.Core.List.{List, map}
 use Prim.Native.Nat.{ℕ, zero, suc, _≤_}
 use lib.Dec.{eqb}

@@ -17,7 +17,7 @@
 -- Rivalled              what an accepted rival writes: two such flows that differ at n
 -- Disputed              what an accepted dispute answers and marks
 -- Surveys, Values, Rivals, Disputes   the whole answer of each question, refusals included; a refusal leaves the tables
-use mathlib.Core.Bool.{Bool, true, false, cond}
+use mathlib.Core.Bool.{Bool, false, cond}
 use mathlib.Core.Logic.{_⊎_}
 use mathlib.Core.Path.{_≡_}
 use Prim.Native.Nat.{ℕ, zero, suc, _+_, _≤_, _<_}

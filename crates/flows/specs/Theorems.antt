@@ -29,7 +29,7 @@
 -- Value-answers-agree m                    two answers that value may give mean the same
 -- Rival-answers-agree m                    rival is accepted in both of two answers or refused alike, and keeps the same places
 -- Dispute-answers-agree m                  two answers that dispute may give mean the same, and the tables are one
-use mathlib.Core.Bool.{Bool, true, false, not}
+use mathlib.Core.Bool.{Bool, false, not}
 use mathlib.Core.Logic.{_⊎_, _↔_}
 use mathlib.Core.Path.{_≡_}
 use Prim.Native.Nat.{ℕ, suc, _<_}

@@ -10,7 +10,7 @@
 -- first-over, second-over    .. with the first or the second flow of an accepted rival
 -- Shown m row               the row is a plant, and for all tables that are long enough it shows what the four questions give
 -- Right w                   .. for a worked plant of either quantity
-use mathlib.Core.Bool.{Bool, true, false, cond}
+use mathlib.Core.Bool.{false, cond}
 use mathlib.Core.List.{List}
 use Prim.Native.Nat.{ℕ, zero, suc, _≤_, _<_}
 use lib.Dec.{ltb}

@@ -1,14 +1,32 @@
 -- The test by which worked plants are proved. Assumes nothing.
 --
--- It computes what the definitions give on a row and compares it with what the row shows.
+-- It computes what the definitions give on a row and compares it with what the row shows. Nothing here has to be believed: a
+-- row that passes is proved to show what the definitions give.
 --
 -- all-below p n         p holds at each number below n
 -- every p               p holds of each refusal
 -- none-fits fits        no refusal fits
 -- smallest fits f       f fits, and none with a smaller number does
--- passes w               the row shows what the definitions give
--- all-right ws          .. each row
-use mathlib.Core.Bool.{Bool, true, false, not, cond, _&&_, _||_}
+-- within-test u o       both ends lie within the units 0 to u
+-- same-mark a b         two marks are one
+-- first-mark marks      the lowest unit that is marked
+--
+-- These take the model m of the amounts, a comparison s of what they mean, and the row:
+-- top                   a number above all streams in use
+-- is-consistent         each part without place 0 has net zero
+-- has-class c n         stream n has class c
+-- shape                 the row is a plant with at most 256 units, and its lists are of one length
+-- survey-fits, value-fits, rival-fits, dispute-fits   which refusals fit where the tables are long enough
+-- counted v b           how often the byte b stands among the classes that the row shows
+-- reads o x             a reading has the amount x
+-- allows o x            a flow with the amount x agrees with a reading, if there is one
+-- flow-of xs            the flow that a list of amounts shows
+-- flow-right n xs       it is balanced and agrees with the readings other than that of n
+-- survey-right, value-right, rival-right, dispute-right   what the row shows of each question is what it gives
+-- row-right             all of these
+--
+-- passes w              the row shows what the definitions give, for a worked plant of either quantity
+use mathlib.Core.Bool.{Bool, true, false, not, _&&_, _||_}
 use mathlib.Core.List.{List, [], _∷_, map}
 use Prim.Native.Nat.{ℕ, zero, suc, _^_}
 use lib.Dec.{eqb, leb, ltb, lit<}
@@ -24,7 +42,7 @@ use Rattle.flows.specs.Classes.{byte}
 use Rattle.flows.specs.Comparisons.{Comparison, compare-residues}
 use Rattle.flows.specs.Decisions.{class, part, undisputed, all-undisputed, consistent, cut-sum}
 use Rattle.flows.specs.declared.class.Class.{Class}
-use Rattle.flows.specs.declared.class.Class.the-variants.{OutOfUse, Observable, Unobservable, Redundant, JustMeasured}
+use Rattle.flows.specs.declared.class.Class.the-variants.{OutOfUse, Observable, Unobservable, Redundant}
 use Rattle.flows.specs.declared.ends.Ends.{Ends}
 use Rattle.flows.specs.declared.fault.QuestionFault.{QuestionFault}
 use Rattle.flows.specs.declared.fault.QuestionFault.the-variants.{NumberOutside, TableTooShort, NotInUse, Inconsistent, Determined, Consistent}
