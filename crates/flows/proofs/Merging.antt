@@ -8,18 +8,27 @@ use mathlib.Core.Path.{_≡_, refl, sym, ap, _∙_, subst}
 use native.Mathlib.Omega.{arith}
 use Prim.Native.Nat.{ℕ, suc, _≤_, _<_}
 use lib.Dec.{eqb}
+use Rattle.std.specs.Orderings.{Decides}
 use Rattle.std.proofs.shelf.Tests.{cases-eq, eq-eqb, ne-eqb, eqb-true, cond-true, cond-false}
 use Rattle.flows.specs.Drawings.{Drawing, In-use, Within}
 use Rattle.flows.specs.Labels.{Below, Labels}
 use Rattle.flows.specs.Parts.{Joined, here, Part}
 use Rattle.flows.proofs.Joins.{joined-map, joined-trans, joined-sym, joined-ends, joined-uncrossed}
 
+-- two places have one label exactly if streams of S join them, as a test
+pub labels-decide : (D : Drawing) (S : ℕ → Type 0) (label : ℕ → ℕ) → Labels D S label → (a b : ℕ) → a ≤ D .units → b ≤ D .units → Decides (eqb (label a) (label b)) (Joined D S a b)
+labels-decide D S label h a b la lb = (
+  λ e. h .joined a b la lb (eqb-true (label a) (label b) e),
+  λ j. joined-uncrossed (λ w. eqb (label w) (label b)) (λ k s. ap (λ x. eqb x (label b)) (h .alike k s)) j ∙ eq-eqb (label b) (label b) refl,
+)
+
+-- sets of streams with the same members have the same labels
+pub labels-map : (D : Drawing) {S T : ℕ → Type 0} (label : ℕ → ℕ) → ((k : ℕ) → S k → T k) → ((k : ℕ) → T k → S k) → Labels D S label → Labels D T label
+labels-map D label f g h = record { alike = λ k t. h .alike k (g k t); joined = λ a b la lb q. joined-map f (h .joined a b la lb q) }
+
 -- the places with the label of v are its part
 pub labels-part : (D : Drawing) (S : ℕ → Type 0) (label : ℕ → ℕ) → Labels D S label → (v : ℕ) → v ≤ D .units → Part D S v (λ w. eqb (label w) (label v))
-labels-part D S label h v lv w lw = (
-  λ e. h .joined v w lv lw (sym (eqb-true (label w) (label v) e)),
-  λ j. sym (joined-uncrossed (λ w. eqb (label w) (label v)) (λ k s. ap (λ x. eqb x (label v)) (h .alike k s)) j) ∙ eq-eqb (label v) (label v) refl,
-)
+labels-part D S label h v lv w lw = let d = labels-decide D S label h w v lw lv in (λ e. joined-sym (d .0 e), λ j. d .1 (joined-sym j))
 
 module _ (D : Drawing) (e : ℕ → Bool) where
   pub labels-start : (label : ℕ → ℕ) → ((w : ℕ) → w ≤ D .units → label w ≡ w) → Labels D (Below 0 e) label

@@ -16,6 +16,8 @@ use Rattle.flows.specs.Decisions.{Above, unread, linked, from-side, class, cut
 use Rattle.flows.specs.declared.class.Class.{Class}
 use Rattle.flows.specs.declared.class.Class.the-variants.{OutOfUse, Observable, Unobservable, Redundant, JustMeasured}
 use Rattle.flows.specs.Drawings.{Drawing, In-use, Within}
+use Rattle.flows.specs.Filling.{Fillable}
+use Rattle.flows.specs.Labels.{Below}
 use Rattle.flows.specs.Flows.{net, Agrees, Possible, Possible-but, Some-flow, read-set, amount, readings}
 use Rattle.flows.specs.Parts.{Unread, Others, Joined, here, along, Part, Uncrossed, Linked}
 use Rattle.flows.specs.Theorems.{Balanced-flows-have-no-net, Some-flow-exactly-if-consistent, Some-conflict, Conflict-excludes-flows, Flow-or-conflict, Conflict-exactly-if-no-flow, Zero-or-anything, Two-sides, Observable-carries-its-cut-sum, Redundant-carries-one-amount, Unobservable-carries-anything, Just-measured-carries-anything, On-a-path-exactly-if-linked, Exactly-one-class}
@@ -23,7 +25,7 @@ use Rattle.flows.proofs.Balances.{balanced-net, balanced-plus, balanced-differ
 use Rattle.flows.proofs.Cuts.{ends-within, side-amount, zero-at, anything-at}
 use Rattle.flows.proofs.Decisions.{above-size, from-unread, unread-used, side-is, linked-decides, class-is, class-only, net-short, linked-from-one-part, linked-from-path, path-from-linked, one-part-from-linked}
 use Rattle.flows.proofs.Evenness.{sets-even, not-both, not-neither, one-of-both}
-use Rattle.flows.proofs.Filling.{fill-start, flow-exists}
+use Rattle.flows.proofs.Filling.{fill-start, fill-skip, fill-free, flow-exists}
 use Rattle.flows.proofs.Groups.{made-up, minus-difference, same-from-difference, unit-r}
 use Rattle.flows.proofs.Joins.{joined-map, joined-trans, joined-sym, joined-ends, part-uncrossed}
 use Rattle.flows.proofs.Nets.{net-same}
@@ -84,6 +86,18 @@ module _ (G : Group) where
   parts-metered : (D : Drawing) → Within D → (t : ℕ → Option Element) (v : ℕ) (C : ℕ → Bool) → Part D (Unread D (read-set t)) v C → Uncrossed D (Unread D (read-set t)) C
   parts-metered D w t v C p = part-uncrossed (Unread D (read-set t)) (ends-within D w (Unread D (read-set t)) (λ _ u. u .0)) v C p
 
+  -- the readings of a consistent plant can be filled in on the unread streams
+  pub fill-consistent : (D : Drawing) → Within D → (t : ℕ → Option Element) → Consistent G D t → Fillable G D (Unread D (read-set t)) (readings G t)
+  fill-consistent D w t h = fill-start G D (Unread D (read-set t)) (readings G t) (sets-even G D w t h)
+
+  -- .. and so can they with any amount at a linked stream n, on the unread streams other than n
+  pub fill-rival : (D : Drawing) → Within D → (t : ℕ → Option Element) → Consistent G D t → (n : ℕ) → In-use D n → Linked D (read-set t) n
+      → (r : ℕ → Element) → ((k : ℕ) → In-use D k → ¬ (n ≡ k) → r k ≡ readings G t k) → Fillable G D (Others (Unread D (read-set t)) n) r
+  fill-rival D w t h n us j r same = fill-free G D (Unread D (read-set t)) (Others (Unread D (read-set t)) n) n but us (readings G t) r j same (fill-consistent D w t h)
+    where
+      but : (k : ℕ) → Unread D (read-set t) k → Others (Unread D (read-set t)) n k ⊎ (k ≡ n)
+      but k u = ⊎-elim (λ q. inr q) (λ d. inl (u, d)) (cases-eq k n)
+
   pub some-flow-exactly-if-consistent : Some-flow-exactly-if-consistent G
   some-flow-exactly-if-consistent D w t = (λ s v _ C p _. flow-net D w t s C (parts-metered D w t v C p), solved)
     where
@@ -96,7 +110,7 @@ module _ (G : Group) where
       solved : Consistent G D t → Some-flow G D t
       solved h =
           let s = flow-exists G D w (unread D R) (λ k _. unread-used D R k) (readings G t)
-          (fill-start G D _ (readings G t) (λ C c o. sets-even G D w t h C (λ k u. c k (from-unread D R (D .size) (above-size D) k u)) o)) in
+          (fill-skip G D (Unread D R) (Below (D .size) (unread D R)) (from-unread D R (D .size) (above-size D)) (readings G t) (fill-consistent D w t h)) in
           (s .0, record { balanced = s .1; agrees = λ k us x e. s .2 k (shut k (has-reading t k x e)) ∙ ap (amount G) e })
 
   pub conflict-excludes-flows : Conflict-excludes-flows G
