@@ -27,7 +27,7 @@ use Rattle.flows.specs.Refusals.{number, Answer, accepted}
 use Rattle.flows.specs.Theorems.{Decisions-are-right, Survey-answers-agree, Value-answers-agree, Rival-answers-agree, Dispute-answers-agree}
 use Rattle.flows.proofs.Cuts.{ends-within}
 use Rattle.flows.proofs.Decisions.{above-size, fails, part-is, class-is, class-only}
-use Rattle.flows.proofs.Evenness.{part-net, consistent-if, inconsistent-if, not-both}
+use Rattle.flows.proofs.PartNets.{part-net, consistent-if, inconsistent-if, not-both}
 use Rattle.flows.proofs.Groups.{minus-difference}
 use Rattle.flows.proofs.Joins.{joined-within}
 use Rattle.flows.proofs.Results.{cut-sum-is, exactly-one-class}

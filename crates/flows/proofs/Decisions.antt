@@ -87,7 +87,7 @@ module _ (D : Drawing) (R : ℕ → Bool) where
   path-from-linked n u j = closed-path-from-joined n u j
 
   pub linked-from-path : (n : ℕ) → Closed-path D (Unread D R) n → Linked D R n
-  linked-from-path n c = joined-from-closed-path n c .1
+  linked-from-path n c = joined-from-closed-path n c
 
   -- a link decides the class of a stream in use
   module _ (n : ℕ) (us : In-use D n) where

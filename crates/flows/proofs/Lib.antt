@@ -10,7 +10,7 @@ pub mod Computed
 pub mod Filling
 pub mod Decisions
 pub mod Cuts
-pub mod Evenness
+pub mod PartNets
 pub mod Results
 pub mod Tallies
 pub mod WorkedPlants

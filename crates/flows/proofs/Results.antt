@@ -24,7 +24,7 @@ use Rattle.flows.specs.Theorems.{Balanced-flows-have-no-net, Some-flow-exactly
 use Rattle.flows.proofs.Balances.{balanced-net, balanced-plus, balanced-difference}
 use Rattle.flows.proofs.Cuts.{ends-within, side-amount, zero-at, anything-at}
 use Rattle.flows.proofs.Decisions.{above-size, from-unread, unread-used, side-is, linked-decides, class-is, class-only, net-short, linked-from-one-part, linked-from-path, path-from-linked, one-part-from-linked}
-use Rattle.flows.proofs.Evenness.{sets-even, not-both, not-neither, one-of-both}
+use Rattle.flows.proofs.PartNets.{sets-net-zero, not-both, not-neither, one-of-both}
 use Rattle.flows.proofs.Filling.{fill-start, fill-skip, fill-free, flow-exists}
 use Rattle.flows.proofs.Groups.{made-up, minus-difference, same-from-difference, unit-r}
 use Rattle.flows.proofs.Joins.{joined-map, joined-trans, joined-sym, joined-ends, part-uncrossed}
@@ -88,7 +88,7 @@ module _ (G : Group) where
 
   -- the readings of a consistent plant can be filled in on the unread streams
   pub fill-consistent : (D : Drawing) → Within D → (t : ℕ → Option Element) → Consistent G D t → Fillable G D (Unread D (read-set t)) (readings G t)
-  fill-consistent D w t h = fill-start G D (Unread D (read-set t)) (readings G t) (sets-even G D w t h)
+  fill-consistent D w t h = fill-start G D (Unread D (read-set t)) (readings G t) (sets-net-zero G D w t h)
 
   -- .. and so can they with any amount at a linked stream n, on the unread streams other than n
   pub fill-rival : (D : Drawing) → Within D → (t : ℕ → Option Element) → Consistent G D t → (n : ℕ) → In-use D n → Linked D (read-set t) n

@@ -45,7 +45,7 @@ use Rattle.flows.specs.WorkedTests.{all-below, every, none-fits, smallest, wit
 use Rattle.flows.proofs.Cuts.{ends-within}
 use Rattle.flows.proofs.Decisions.{fails, part-is, class-is, class-only, total-short, net-short}
 use Rattle.flows.proofs.Results.{cut-sum-is}
-use Rattle.flows.proofs.Evenness.{undisputed-part, disputed-part, all-undisputed-each, consistent-if, inconsistent-if, not-both}
+use Rattle.flows.proofs.PartNets.{undisputed-part, disputed-part, all-undisputed-each, consistent-if, inconsistent-if, not-both}
 use Rattle.flows.proofs.Joins.{joined-within}
 use Rattle.flows.proofs.Tallies.{how-many-same, how-many-short, count-is}
 

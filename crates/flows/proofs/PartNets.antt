@@ -78,8 +78,8 @@ module _ (G : Group) (D : Drawing) (within : Within D) where
                 ⊎-elim (λ (e : w ≡ m). absurd (true≢false (sym (own-is m le m le .1 here) ∙ ap B (sym e) ∙ not-true (B w) (p .1)))) (λ d. omega (arith, low w b (p .0))) (cases-eq w m)
 
     -- where each part without place 0 has net zero, so has each set that no unread stream crosses
-    pub sets-even : Consistent G D t → (C : ℕ → Bool) → Uncrossed D (Unread D (read-set t)) C → C 0 ≡ false → net-reading G D t C ≡ G .zero
-    sets-even h C c o = strip h (suc (D .units)) C c o (λ w b _. omega arith)
+    pub sets-net-zero : Consistent G D t → (C : ℕ → Bool) → Uncrossed D (Unread D (read-set t)) C → C 0 ≡ false → net-reading G D t C ≡ G .zero
+    sets-net-zero h C c o = strip h (suc (D .units)) C c o (λ w b _. omega arith)
 
     -- the test by labels
     pub consistent-from-labels : (label : ℕ → ℕ) → Labels D (Unread D (read-set t)) label
