@@ -83,8 +83,8 @@ module _ (G : Group) where
   flow-net : (D : Drawing) → Within D → (t : ℕ → Option Element) → Some-flow G D t → (C : ℕ → Bool) → Uncrossed D (Unread D (read-set t)) C → net-reading G D t C ≡ G .zero
   flow-net D w t (f, p) C c = net-readings G D t f (p .agrees) C c ∙ balanced-net G D w f (p .balanced) C
 
-  parts-metered : (D : Drawing) → Within D → (t : ℕ → Option Element) (v : ℕ) (C : ℕ → Bool) → Part D (Unread D (read-set t)) v C → Uncrossed D (Unread D (read-set t)) C
-  parts-metered D w t v C p = part-uncrossed (Unread D (read-set t)) (ends-within D w (Unread D (read-set t)) (λ _ u. u .0)) v C p
+  parts-uncrossed : (D : Drawing) → Within D → (t : ℕ → Option Element) (v : ℕ) (C : ℕ → Bool) → Part D (Unread D (read-set t)) v C → Uncrossed D (Unread D (read-set t)) C
+  parts-uncrossed D w t v C p = part-uncrossed (Unread D (read-set t)) (ends-within D w (Unread D (read-set t)) (λ _ u. u .0)) v C p
 
   -- the readings of a consistent plant can be filled in on the unread streams
   pub fill-consistent : (D : Drawing) → Within D → (t : ℕ → Option Element) → Consistent G D t → Fillable G D (Unread D (read-set t)) (readings G t)
@@ -99,7 +99,7 @@ module _ (G : Group) where
       but k u = ⊎-elim (λ q. inr q) (λ d. inl (u, d)) (cases-eq k n)
 
   pub some-flow-exactly-if-consistent : Some-flow-exactly-if-consistent G
-  some-flow-exactly-if-consistent D w t = (λ s v _ C p _. flow-net D w t s C (parts-metered D w t v C p), solved)
+  some-flow-exactly-if-consistent D w t = (λ s v _ C p _. flow-net D w t s C (parts-uncrossed D w t v C p), solved)
     where
       R : ℕ → Bool
       R = read-set t
@@ -113,12 +113,15 @@ module _ (G : Group) where
           (fill-skip G D (Unread D R) (Below (D .size) (unread D R)) (from-unread D R (D .size) (above-size D)) (readings G t) (fill-consistent D w t h)) in
           (s .0, record { balanced = s .1; agrees = λ k us x e. s .2 k (shut k (has-reading t k x e)) ∙ ap (amount G) e })
 
-  pub conflict-excludes-flows : Conflict-excludes-flows G
-  conflict-excludes-flows D w t (C, c) flow = c .not-zero (flow-net D w t flow C (c .only-read-cross))
+  conflict-excludes : (D : Drawing) → Within D → (t : ℕ → Option Element) → Some-conflict G D t → ¬ Some-flow G D t
+  conflict-excludes D w t (C, c) flow = c .not-zero (flow-net D w t flow C (c .only-read-cross))
 
   -- a part in dispute is a set in conflict
   conflict-from-part : (D : Drawing) → Within D → (t : ℕ → Option Element) → Inconsistent G D t → Some-conflict G D t
-  conflict-from-part D w t (v, C, d) = (C, record { without-0 = d .without-0; only-read-cross = parts-metered D w t v C (d .part); not-zero = d .not-zero })
+  conflict-from-part D w t (v, C, d) = (C, record { without-0 = d .without-0; only-read-cross = parts-uncrossed D w t v C (d .part); not-zero = d .not-zero })
+
+  pub conflict-excludes-flows : Conflict-excludes-flows G
+  conflict-excludes-flows D w t = (conflict-excludes D w t, λ i. conflict-excludes D w t (conflict-from-part D w t i))
 
   pub flow-or-conflict : Flow-or-conflict G
   flow-or-conflict D w t = (λ none away. parts none (λ i. away (conflict-from-part D w t i)), parts)
@@ -129,7 +132,7 @@ module _ (G : Group) where
   pub conflict-exactly-if-no-flow : Conflict-exactly-if-no-flow G
   conflict-exactly-if-no-flow s D w t = (
     (
-      conflict-excludes-flows D w t,
+      conflict-excludes D w t,
       λ none. ⊎-elim (λ h. absurd (none (some-flow-exactly-if-consistent D w t .1 h))) (λ i. conflict-from-part D w t i) (one-of-both G D w t s),
     ),
     (
@@ -227,12 +230,12 @@ after-last D S n a w (along {b = b} k s e j) = ⊎-elim (λ i. at i) (λ i. inr 
     at i = ⊎-elim (λ q. inr (end i q)) (λ d. inl (along k (s, d) e i)) (cases-eq k n)
 
 pub two-sides : Two-sides
-two-sides D R n h w = (
+two-sides D R n h C A B c a b w lw = (
   (
-    λ j. ⊎-elim (λ i. inl i) (λ i. i) (after-last D (Unread D R) n (D .from n) w j),
-    λ i. ⊎-elim (λ j. joined-map (λ _ o. o .0) j) (λ j. joined-trans (joined-ends n (h .0)) (joined-map (λ _ o. o .0) j)) i,
+    λ i. ⊎-elim (λ j. inl (a w lw .1 j)) (λ e. ⊎-elim (λ j. inl (a w lw .1 j)) (λ j. inr (b w lw .1 j)) e) (after-last D (Unread D R) n (D .from n) w (c w lw .0 i)),
+    λ e. c w lw .1 (⊎-elim (λ i. joined-map (λ _ o. o .0) (a w lw .0 i)) (λ i. joined-trans (joined-ends n (h .0)) (joined-map (λ _ o. o .0) (b w lw .0 i))) e),
   ),
-  λ (a, b). h .1 (path-from-linked D R n (h .0) (joined-trans a (joined-sym b))),
+  λ (i, j). h .1 (path-from-linked D R n (h .0) (joined-trans (a w lw .0 i) (joined-sym (b w lw .0 j)))),
 )
 
 pub exactly-one-class : Exactly-one-class

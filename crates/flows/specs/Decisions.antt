@@ -3,7 +3,7 @@
 -- These are not definitions of the subject: a theorem says that they give what the definitions say, so that what a small plant
 -- shows can be proved by computing. m is a number above all streams in use.
 --
--- Above D m            no stream from m on is in use
+-- Above D m            m is at most the size of D, and no stream from m on is in use
 -- unread D R k         whether stream k is unread
 -- unread-but D R n k   .. and is not n
 -- merged a b xs        the labels xs, with the label of place a in place of that of place b

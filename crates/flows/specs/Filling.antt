@@ -1,8 +1,8 @@
 -- Amounts filled in one stream at a time, until a flow is balanced. Assumes nothing.
 --
 -- Fillable G D S r   every set of places that no stream of S crosses has net zero under r, so that r can be made a
---                    balanced flow by its amounts on S alone
--- Fill-side D S n B       B holds the places that streams of S join to the from place of n, among the ends of streams in use
+--                    balanced flow by other amounts on S alone
+-- Fill-side D S n B  B holds the places that streams of S join to the from place of n, among the ends of streams in use
 use mathlib.Core.Bool.{Bool, true}
 use mathlib.Core.Path.{_≡_}
 use Prim.Native.Nat.{ℕ}

@@ -4,8 +4,8 @@
 -- readings: an amount at each read stream, and none at the others.
 --
 -- pick G b x            x where b is true, else zero
--- total-below G D m test f  the sum of f over the streams in use below m that pass the test
--- total G D test f      the sum of f over all streams in use that pass the test
+-- total-below G D m p f the sum of f over the streams in use below m that pass the test p
+-- total G D p f         the sum of f over all streams in use that pass p
 -- arriving G D f v      what f brings to place v
 -- departing G D f v     what f takes away from place v
 -- leaving G D C f       what f carries from a place in C to one outside
@@ -17,7 +17,7 @@
 -- Agrees-but G D n t f  .. of each other than n
 -- Zero-on G D S f       f is zero on the streams of the set S
 -- Possible G D t f      f is balanced and agrees: it may have run
--- Possible-but G D n t f  f is balanced and agrees with the readings other than that of n
+-- Possible-but G D n t f   f is balanced and agrees with the readings other than that of n
 -- Some-flow G D t       some balanced flow agrees
 -- read-set t            the numbers that have a reading
 -- amount G o            a reading as an amount, zero where there is none

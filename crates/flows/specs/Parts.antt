@@ -7,7 +7,7 @@
 -- Unread D R k       stream k is in use and not read
 -- Others S n k       stream k is one of S, and not n
 -- Joined D S a b     streams of S join the places a and b, directions ignored
--- Part D S v C       the test C holds exactly the places that streams of S join to v: the part of v
+-- Part D S v C       C is the part of v: of the places 0 to units, the test C holds exactly those that streams of S join to v
 -- Uncrossed D S C    no stream of S has one end in C and one outside
 -- Linked D R n       unread streams other than n join the two ends of n
 -- From-side D R n C  C is the side of the from end of n: what unread streams other than n join to it

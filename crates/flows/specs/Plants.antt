@@ -3,9 +3,11 @@
 -- last-unit           the largest unit that a plant may have: 256
 -- last-number         the largest stream number: 1,024
 -- Number n            n is a stream number: from 1 to 1,024
+-- from-unit e         the unit that a stream leaves; it means nothing where there are no ends
+-- to-unit e           the unit that it enters
 -- drawing u ends      the drawing of the plant with units 0 to u and the ends that each number has; a number with ends is in
 --                     use, and unit v is place v. This alone says at which places a stream ends.
--- readings-of isolated amounts   the reading of each number: its amount, or none while the number is isolated
+-- readings-of i a     the reading of each number: its amount by a, or none while i says that the number is isolated
 use mathlib.Core.Bool.{Bool, cond, _&&_}
 use Prim.Native.Nat.{ℕ, suc, _≤_}
 use lib.Dec.{leb}
@@ -24,7 +26,6 @@ last-number = 1024
 abbrev pub Number : ℕ → Type 0
 Number n = (1 ≤ n) × (n ≤ last-number)
 
--- the ends of a stream; they mean nothing where there are none
 abbrev pub from-unit : Option Ends → ℕ
 from-unit (Some e) = e .from
 from-unit None = 0

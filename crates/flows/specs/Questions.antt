@@ -8,13 +8,14 @@
 -- unit-places           the places that dispute asks of its table: 257
 -- meant m a             what an amount means, if there is one
 -- how-many p n          how many numbers below n pass p
+-- holds o b             whether a place has the byte b
 -- count b table n       how often the byte b stands at places below n
 -- Survey-fits, Value-fits, Rival-fits, Dispute-fits   when each refusal fits
--- Surveyed              what an accepted survey answers and writes
--- Valued n answer       what an accepted value answers
+-- Surveyed              what an accepted survey answers and writes: the plant is consistent
+-- Valued n answer       what an accepted value answers; Values adds that the plant is consistent
 -- Written n f old new   the table holds the flow f: balanced, and agreeing with the readings other than that of n; places of
 --                       numbers out of use are kept
--- Rivalled              what an accepted rival writes: two such flows that differ at n
+-- Rivalled              what an accepted rival writes: the plant is consistent, and the two such flows differ at n
 -- Disputed              what an accepted dispute answers and marks
 -- Surveys, Values, Rivals, Disputes   the whole answer of each question, refusals included; a refusal leaves the tables
 use mathlib.Core.Bool.{Bool, false, cond}
@@ -50,7 +51,6 @@ abbrev pub how-many : (ℕ → Bool) → ℕ → ℕ
 how-many p zero = 0
 how-many p (suc n) = how-many p n + cond (p n) 1 0
 
--- whether a place has the byte b
 abbrev pub holds : Option ℕ → ℕ → Bool
 holds (Some x) b = eqb x b
 holds None b = false

@@ -1,10 +1,10 @@
 -- Refusals: their numbers, and how a call answers. Assumes nothing.
 --
--- number f                   the number of a question's refusal
--- Answer number Fits Done Kept r   how a call answers whose refusals fit as Fits says:
---                            accepted, no refusal fits and Done holds of what it answers;
---                            refused, the refusal given fits, none with a smaller number does, and Kept holds
--- accepted f r               what f makes of an accepted answer; a refusal stays as it is
+-- number f       the number of a question's refusal
+-- Answer number Fits Done Kept r
+--                the answer r of a call whose refusals fit as Fits says: where it is accepted, no refusal fits and Done holds
+--                of what it answers; where it is refused, the refusal given fits, none with a smaller number does, and Kept holds
+-- accepted f r   what f makes of an accepted answer; a refusal stays as it is
 use Prim.Native.Nat.{ℕ, _≤_}
 use Rattle.std.specs.declared.result.Result.{Result}
 use Rattle.std.specs.declared.result.Result.the-variants.{Ok, Err}

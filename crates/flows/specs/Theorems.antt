@@ -1,11 +1,12 @@
 -- What is true of every drawing, every table of readings and every flow. Assumes nothing.
 --
--- Each statement speaks of every drawing whose streams lie within its places. A flow is possible if it is balanced and agrees
--- with the readings.
+-- The statements that speak of amounts hold for every drawing whose streams lie within its places. A flow is possible if it is
+-- balanced and agrees with the readings.
 --
 -- Balanced-flows-have-no-net G             a balanced flow has net zero over every set of places
 -- Some-flow-exactly-if-consistent G        some flow is possible exactly if each part without place 0 has net zero
--- Conflict-excludes-flows G                where a set is in conflict no flow is possible
+-- Some-conflict G D t                      some set of places is in conflict
+-- Conflict-excludes-flows G                where a set is in conflict no flow is possible, nor where the plant is inconsistent
 -- Flow-or-conflict G                       it cannot be that no flow is possible and no set is in conflict, nor that no flow is
 --                                          possible and the plant is not inconsistent
 -- Conflict-exactly-if-no-flow G            some set is in conflict exactly if no flow is possible, and some flow is possible
@@ -14,7 +15,8 @@
 -- Anything-at G D S n                      for each amount, some balanced flow that is zero on S carries it at n
 -- Zero-or-anything G                       for a stream n in use outside S it is one or the other: anything if streams outside
 --                                          S other than n join the ends of n, and zero if they do not
--- Two-sides                                without an observable stream its part falls into two sides
+-- Two-sides                                without an observable stream its part falls into two sides: each place of the part
+--                                          is on one of them, and none on both
 -- Observable-carries-its-cut-sum G         an observable stream has a cut sum, and carries it in every possible flow
 -- Redundant-carries-one-amount G           a redundant stream carries one amount in all balanced flows that agree with the
 --                                          other readings
@@ -27,12 +29,13 @@
 -- Decisions-are-right G                    .. always
 -- Survey-answers-agree m                   two answers that survey may give are one, and so are the tables
 -- Value-answers-agree m                    two answers that value may give mean the same
--- Rival-answers-agree m                    rival is accepted in both of two answers or refused alike, and keeps the same places
+-- Rival-answers-agree m                    two answers that rival may give are both accepted or refused by one number, and the
+--                                          places of numbers out of use hold the same
 -- Dispute-answers-agree m                  two answers that dispute may give mean the same, and the tables are one
-use mathlib.Core.Bool.{Bool, false, not}
+use mathlib.Core.Bool.{Bool, true, false, not}
 use mathlib.Core.Logic.{_⊎_, _↔_}
 use mathlib.Core.Path.{_≡_}
-use Prim.Native.Nat.{ℕ, suc, _<_}
+use Prim.Native.Nat.{ℕ, suc, _≤_, _<_}
 use Rattle.std.specs.declared.option.Option.{Option}
 use Rattle.std.specs.declared.result.Result.{Result}
 use Rattle.std.specs.Orderings.{Decides}
@@ -47,7 +50,7 @@ use Rattle.flows.specs.declared.class.Class.the-variants.{Observable, Unobserv
 use Rattle.flows.specs.declared.fault.QuestionFault.{QuestionFault}
 use Rattle.flows.specs.Drawings.{Drawing, In-use, Within}
 use Rattle.flows.specs.Flows.{net, Balanced, Zero-on, Possible, Possible-but, Some-flow, read-set}
-use Rattle.flows.specs.Parts.{Unread, Others, Joined, Linked}
+use Rattle.flows.specs.Parts.{Unread, Part, Linked, From-side, To-side}
 use Rattle.flows.specs.Paths.{Closed-path}
 use Rattle.flows.specs.Questions.{meant, Surveys, Values, Rivals, Disputes}
 use Rattle.flows.specs.Refusals.{accepted}
@@ -58,12 +61,12 @@ Balanced-flows-have-no-net G = (D : Drawing) → Within D → (f : ℕ → G .El
 abbrev pub Some-flow-exactly-if-consistent : Group → Type 0
 Some-flow-exactly-if-consistent G = (D : Drawing) → Within D → (t : ℕ → Option (G .Element)) → Some-flow G D t ↔ Consistent G D t
 
--- some set of places is in conflict
 abbrev pub Some-conflict : (G : Group) → Drawing → (ℕ → Option (G .Element)) → Type 0
 Some-conflict G D t = (C : ℕ → Bool) × Conflict G D t C
 
 abbrev pub Conflict-excludes-flows : Group → Type 0
-Conflict-excludes-flows G = (D : Drawing) → Within D → (t : ℕ → Option (G .Element)) → Some-conflict G D t → ¬ Some-flow G D t
+Conflict-excludes-flows G = (D : Drawing) → Within D → (t : ℕ → Option (G .Element))
+    → (Some-conflict G D t → ¬ Some-flow G D t) × (Inconsistent G D t → ¬ Some-flow G D t)
 
 abbrev pub Flow-or-conflict : Group → Type 0
 Flow-or-conflict G = (D : Drawing) → Within D → (t : ℕ → Option (G .Element))
@@ -79,15 +82,15 @@ Zero-at G D S n = (f : ℕ → G .Element) → Balanced G D f → Zero-on G D S 
 abbrev pub Anything-at : (G : Group) → Drawing → (ℕ → Bool) → ℕ → Type 0
 Anything-at G D S n = (x : G .Element) → (f : ℕ → G .Element) × Balanced G D f × Zero-on G D S f × (f n ≡ x)
 
+-- S stands for the set of read streams in `Linked`
 abbrev pub Zero-or-anything : Group → Type 0
 Zero-or-anything G = (D : Drawing) → Within D → (S : ℕ → Bool) (n : ℕ) → In-use D n → S n ≡ false
     → (¬ Linked D S n × Zero-at G D S n) ⊎ (Linked D S n × Anything-at G D S n)
 
--- each place of the part is on one side, and none is on both
 abbrev pub Two-sides : Type 0
-Two-sides = (D : Drawing) (R : ℕ → Bool) (n : ℕ) → Is D R Observable n → (w : ℕ)
-    → (Joined D (Unread D R) (D .from n) w ↔ (Joined D (Others (Unread D R) n) (D .from n) w ⊎ Joined D (Others (Unread D R) n) (D .to n) w))
-    × ¬ (Joined D (Others (Unread D R) n) (D .from n) w × Joined D (Others (Unread D R) n) (D .to n) w)
+Two-sides = (D : Drawing) (R : ℕ → Bool) (n : ℕ) → Is D R Observable n
+    → (C A B : ℕ → Bool) → Part D (Unread D R) (D .from n) C → From-side D R n A → To-side D R n B → (w : ℕ) → w ≤ D .units
+    → ((C w ≡ true) ↔ ((A w ≡ true) ⊎ (B w ≡ true))) × ¬ ((A w ≡ true) × (B w ≡ true))
 
 abbrev pub Observable-carries-its-cut-sum : Group → Type 0
 Observable-carries-its-cut-sum G = (D : Drawing) → Within D → (t : ℕ → Option (G .Element)) (n : ℕ) → Is D (read-set t) Observable n

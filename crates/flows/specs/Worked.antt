@@ -1,15 +1,17 @@
 -- Worked plants: that the definitions give what each shows. Assumes nothing.
 --
--- A worked plant shows numbers 1 to the length of its lists, number n at place n - 1; further numbers are out of use.
+-- A worked plant, a row of the table, shows the numbers from 1 to the length of its lists, number n at place n - 1; further
+-- numbers are out of use.
 --
--- at-number d xs n          what the list xs has at number n, or d
--- plan row                  the drawing of a worked plant
--- shown-readings m row      its readings, as what they mean
--- classes-over, marks-over   a table with the classes or marks that the row shows, written over what it had
--- flow-over D xs old         .. with the amounts xs at the places of streams in use
--- first-over, second-over    .. with the first or the second flow of an accepted rival
--- Shown m row               the row is a plant, and for all tables that are long enough it shows what the four questions give
--- Right w                   .. for a worked plant of either quantity
+-- at-number d xs n         what the list xs has at number n, or d
+-- plan row                 the drawing of the plant
+-- shown-readings m row     its readings, as what they mean
+-- classes-over r old       a table with the classes that the row shows, written over what it had
+-- marks-over r old         .. with the marks that it shows
+-- flow-over D xs old       .. with the amounts xs at the places of streams in use
+-- first-over, second-over  .. with the first or the second flow that it shows of rival
+-- Shown m row              the row is a plant, and for all tables that are long enough it shows what the four questions give
+-- Right w                  .. for a worked plant of either quantity
 use mathlib.Core.Bool.{false, cond}
 use mathlib.Core.List.{List}
 use Prim.Native.Nat.{ℕ, zero, suc, _≤_, _<_}

@@ -11,7 +11,7 @@ pub enum Class {
     Observable,
     /// Unread, and on a closed path of unread streams: the balances leave its amount open.
     Unobservable,
-    /// Read, with its ends in different parts: the other readings confirm its own.
+    /// Read, with its ends in different parts: the other readings force its amount.
     Redundant,
     /// Read, with its ends in one part: only its own meter tells its amount.
     JustMeasured,

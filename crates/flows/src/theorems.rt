@@ -20,30 +20,31 @@ pub fn some_flow_exactly_if_consistent<Q: Quantity>()
 {}
 
 /// Where only read streams cross a set of units without the surroundings and its net amount is not zero, no balanced flow
-/// agrees.
+/// agrees; nor where the plant is inconsistent.
 pub fn conflict_excludes_flows<Q: Quantity>()
     ensures { λ _. ⌜ Conflict-excludes-flows (model .group) ⌝ }
 {}
 
-/// It cannot be that no balanced flow agrees and there is no such set, nor that none agrees and the plant is not
-/// inconsistent.
+/// It cannot be that no balanced flow agrees and there is no set of units without the surroundings that only read streams
+/// cross and whose net amount is not zero; nor that none agrees and the plant is not inconsistent.
 pub fn flow_or_conflict<Q: Quantity>()
     ensures { λ _. ⌜ Flow-or-conflict (model .group) ⌝ }
 {}
 
-/// Where amounts can be told apart by a test: there is such a set exactly if no balanced flow agrees, and some balanced flow
-/// agrees exactly if the plant is not inconsistent.
+/// Where amounts can be told apart by a test: there is a set of units without the surroundings that only read streams cross
+/// and whose net amount is not zero exactly if no balanced flow agrees, and some balanced flow agrees exactly if the plant is
+/// not inconsistent.
 pub fn conflict_exactly_if_no_flow<Q: Quantity>()
     ensures { λ _. ⌜ Conflict-exactly-if-no-flow (model .group) ⌝ }
 {}
 
-/// What masses, totalisers and components mean can be told apart by a test, as the theorem before asks.
+/// What masses, totalisers and components mean can be told apart by a test.
 pub fn amounts_can_be_told_apart()
     ensures { λ _. ⌜ Comparison (mass-model .group) × Comparison (totaliser-model .group) × Comparison (components-model .group) ⌝ }
 {}
 
-/// Of the balanced flows that are zero on a set of streams: at a stream in use outside it all are zero, or it may carry
-/// anything. Which of the two is decided by whether streams outside the set, other than itself, join its ends.
+/// At a stream in use outside a set of streams, the balanced flows that are zero on the set are all zero, or take every
+/// amount. Which of the two is decided by whether streams outside the set, other than itself, join its ends.
 pub fn zero_or_anything<Q: Quantity>()
     ensures { λ _. ⌜ Zero-or-anything (model .group) ⌝ }
 {}
@@ -68,8 +69,7 @@ pub fn unobservable_carries_anything<Q: Quantity>()
     ensures { λ _. ⌜ Unobservable-carries-anything (model .group) ⌝ }
 {}
 
-/// For each amount, one of the balanced flows that agree with the other readings carries it at a just-measured stream,
-/// where there is such a flow.
+/// Where some balanced flow agrees with the other readings, for each amount one carries it at a just-measured stream.
 pub fn just_measured_carries_anything<Q: Quantity>()
     ensures { λ _. ⌜ Just-measured-carries-anything (model .group) ⌝ }
 {}
@@ -84,17 +84,18 @@ pub fn exactly_one_class()
     ensures { λ _. ⌜ Exactly-one-class ⌝ }
 {}
 
-/// The class, the cut sum and the consistency that `specs/Decisions.antt` computes are those of the definitions.
+/// The class and the cut sum that `specs/Decisions.antt` computes are those of the definitions, and so is the consistency
+/// where amounts can be told apart by a test.
 pub fn decisions_are_right<Q: Quantity>()
     ensures { λ _. ⌜ Decisions-are-right (model .group) ⌝ }
 {}
 
-/// The definitions leave survey one answer and one table of classes.
+/// The definitions leave survey at most one answer and one table of classes.
 pub fn survey_answers_agree<Q: Quantity>()
     ensures { λ _. ⌜ Survey-answers-agree model ⌝ }
 {}
 
-/// The definitions leave value one answer, by what it means.
+/// The definitions leave value at most one answer, by what it means.
 pub fn value_answers_agree<Q: Quantity>()
     ensures { λ _. ⌜ Value-answers-agree model ⌝ }
 {}
@@ -105,7 +106,7 @@ pub fn rival_answers_agree<Q: Quantity>()
     ensures { λ _. ⌜ Rival-answers-agree model ⌝ }
 {}
 
-/// The definitions leave dispute one answer, by what it means, and one table of marks.
+/// The definitions leave dispute at most one answer, by what it means, and one table of marks.
 pub fn dispute_answers_agree<Q: Quantity>()
     ensures { λ _. ⌜ Dispute-answers-agree model ⌝ }
 {}

@@ -1,7 +1,7 @@
 //! Worked plants, and what the four questions give on each.
 //!
 //! Each plant is a small function; [`worked_plants`] has them in one table. Its contract says of every plant that what it shows
-//! is what the definitions in `specs/` give, refusals included. It is proved by computing.
+//! is what the definitions in `specs/` give, where the tables are long enough. It is proved by computing.
 ghost use mathlib.Core.Bool.{true};
 ghost use mathlib.Core.Path.{_≡_};
 ghost use Rattle.std.specs.shelf.Lists.{All};
@@ -30,7 +30,7 @@ pub struct Survey {
     pub counts: (u16, u16, u16, u16),
 }
 
-/// Two flows that rival may write, by their amounts at the numbers 1 to 5.
+/// Two flows that rival may write, by their amounts at the numbers 1 to 5; those at numbers out of use do not count.
 #[derive(Drop)]
 pub struct Flows<Q> {
     pub first: [Q; 5],
@@ -463,7 +463,7 @@ fn through_unit_0() -> Worked
     }))
 }
 
-/// A reading inside one part without unit 0: the part balances whatever it is, so the reading is just measured.
+/// A reading inside one part without unit 0: whatever it is, stream 1 can carry the same, so it is just measured.
 fn inside_one_part() -> Worked
     ensures { λ r. ⌜ Right r ⌝ }
 {
@@ -503,7 +503,8 @@ fn inside_one_part() -> Worked
     }))
 }
 
-/// A read stream between the two sides of a cut counts: 30 enter the side of unit 1, and 10 leave it by stream 4.
+/// A read stream between the two sides of stream 3 counts in its cut sum: 30 enter the side of unit 1, and 10 leave it by
+/// stream 4.
 ///
 /// Number 1 is out of use, although the source still has a reading of it.
 fn read_across_the_cut() -> Worked
