@@ -1,10 +1,11 @@
 -- The computed labels are labels. Assumes nothing.
 use mathlib.Core.Bool.{Bool, true, false, cond}
 use mathlib.Core.Logic.{inl, ⊎-elim}
-use mathlib.Core.Path.{_≡_, refl, sym, ap, _∙_}
+use mathlib.Core.Path.{_≡_, refl, sym, ap, _∙_, subst}
 use native.Mathlib.Omega.{arith}
 use native.Mathlib.Nat.{zero-add}
-use Prim.Native.Nat.{ℕ, zero, suc, _≤_, _<_}
+use native.Mathlib.Numerals.{add-one}
+use Prim.Native.Nat.{ℕ, zero, suc, _+_, _≤_, _<_}
 use lib.Dec.{eqb}
 use lib.ListN.{length, getD}
 use Rattle.std.proofs.shelf.Counted.{length-counting, getD-counting}
@@ -36,15 +37,18 @@ module _ (D : Drawing) (e : ℕ → Bool) where
       ∙ getD-map (λ x. cond (eqb x (getD (labels D e n) (D .to n) 0)) (getD (labels D e n) (D .from n) 0) x) (labels D e n) w 0 0
       (let l = labels-length n in omega arith)
 
+  one-more : (n : ℕ) (l : ℕ → ℕ) → Labels D (Below (n + 1) e) l → Labels D (Below (suc n) e) l
+  one-more n l h = subst (λ i. Labels D (Below i e) l) (add-one n) h
+
   -- labels of the streams below n that pass e, where all that pass are in use
   pub label-is : Within D → ((k : ℕ) → k < D .size → e k ≡ true → D .used k ≡ true) → (n : ℕ) → n ≤ D .size → Labels D (Below n e) (label D e n)
   label-is within used zero le = labels-start D e (label D e 0) label-start
   label-is within used (suc n) le =
       let before : Labels D (Below n e) (label D e n) = label-is within used n (omega arith) in
       ⊎-elim
-      (λ (i : e n ≡ true). labels-merge D e within used n (label D e n) (label D e (suc n)) (label D e n (D .from n)) (label D e n (D .to n)) (omega arith) i (inl (refl, refl)) (λ w lw. label-merge n w i lw) before)
-      (λ (o : e n ≡ false). labels-skip D e n (label D e (suc n)) o (record {
+      (λ (i : e n ≡ true). one-more n (label D e (suc n)) (labels-merge D e within used n (label D e n) (label D e (suc n)) (label D e n (D .from n)) (label D e n (D .to n)) (omega arith) i (inl (refl, refl)) (λ w lw. label-merge n w i lw) before))
+      (λ (o : e n ≡ false). one-more n (label D e (suc n)) (labels-skip D e n (label D e (suc n)) o (record {
         alike = λ k b. label-skip n (D .from k) o ∙ before .alike k b ∙ sym (label-skip n (D .to k) o);
         joined = λ a b la lb q. before .joined a b la lb (sym (label-skip n a o) ∙ q ∙ label-skip n b o);
-      }))
+      })))
       (cases-bool (e n))

@@ -6,7 +6,7 @@ use mathlib.Core.Bool.{Bool, true, false, cond, true≢false}
 use mathlib.Core.Logic.{_⊎_, inl, inr, ⊎-elim}
 use mathlib.Core.Path.{_≡_, refl, sym, ap, _∙_, subst}
 use native.Mathlib.Omega.{arith}
-use Prim.Native.Nat.{ℕ, suc, _≤_, _<_}
+use Prim.Native.Nat.{ℕ, _+_, _≤_, _<_}
 use lib.Dec.{eqb}
 use Rattle.std.specs.Orderings.{Decides}
 use Rattle.std.proofs.shelf.Tests.{cases-eq, eq-eqb, ne-eqb, eqb-true, cond-true, cond-false}
@@ -37,10 +37,10 @@ module _ (D : Drawing) (e : ℕ → Bool) where
     joined = λ a b la lb q. subst (λ x. Joined D (Below 0 e) a x) (sym (own a la) ∙ q ∙ own b lb) here;
   }
 
-  up : (n k : ℕ) → Below n e k → Below (suc n) e k
+  up : (n k : ℕ) → Below n e k → Below (n + 1) e k
   up n k b = (omega (arith, b .0), b .1)
 
-  pub labels-skip : (n : ℕ) (label : ℕ → ℕ) → e n ≡ false → Labels D (Below n e) label → Labels D (Below (suc n) e) label
+  pub labels-skip : (n : ℕ) (label : ℕ → ℕ) → e n ≡ false → Labels D (Below n e) label → Labels D (Below (n + 1) e) label
   labels-skip n label o h = record {
     alike = λ k b. h .alike k (⊎-elim (λ (q : k ≡ n). absurd (true≢false (sym (b .1) ∙ ap e q ∙ o))) (λ (d : k ≡ n → ⊥). (omega (arith, b .0), b .1)) (cases-eq k n));
     joined = λ a b la lb q. joined-map (up n) (h .joined a b la lb q);
@@ -50,7 +50,7 @@ module _ (D : Drawing) (e : ℕ → Bool) where
   pub labels-merge : Within D → ((k : ℕ) → k < D .size → e k ≡ true → D .used k ≡ true) → (n : ℕ) (label merged : ℕ → ℕ) (lo hi : ℕ) → n < D .size → e n ≡ true
       → ((label (D .from n) ≡ lo) × (label (D .to n) ≡ hi)) ⊎ ((label (D .from n) ≡ hi) × (label (D .to n) ≡ lo))
       → ((w : ℕ) → w ≤ D .units → merged w ≡ cond (eqb (label w) hi) lo (label w))
-      → Labels D (Below n e) label → Labels D (Below (suc n) e) merged
+      → Labels D (Below n e) label → Labels D (Below (n + 1) e) merged
   labels-merge within used n label merged lo hi lt us two new h = record { alike = alike; joined = joined }
     where
       to-hi : (w : ℕ) → w ≤ D .units → label w ≡ hi → merged w ≡ lo
@@ -68,7 +68,7 @@ module _ (D : Drawing) (e : ℕ → Bool) where
       tl : D .to n ≤ D .units
       tl = within .to n (lt, used n lt us)
 
-      alike : (k : ℕ) → Below (suc n) e k → merged (D .from k) ≡ merged (D .to k)
+      alike : (k : ℕ) → Below (n + 1) e k → merged (D .from k) ≡ merged (D .to k)
       alike k b = ⊎-elim
           (λ (q : k ≡ n). ap (λ i. merged (D .from i)) q ∙ ends two ∙ ap (λ i. merged (D .to i)) (sym q))
           (λ (d : k ≡ n → ⊥).
@@ -81,20 +81,20 @@ module _ (D : Drawing) (e : ℕ → Bool) where
           ends (inl p) = at-lo (D .from n) fl (p .0) ∙ sym (to-hi (D .to n) tl (p .1))
           ends (inr p) = to-hi (D .from n) fl (p .0) ∙ sym (at-lo (D .to n) tl (p .1))
 
-      was : (a b : ℕ) → a ≤ D .units → b ≤ D .units → label a ≡ label b → Joined D (Below (suc n) e) a b
+      was : (a b : ℕ) → a ≤ D .units → b ≤ D .units → label a ≡ label b → Joined D (Below (n + 1) e) a b
       was a b la lb q = joined-map (up n) (h .joined a b la lb q)
 
-      across : (a b : ℕ) → a ≤ D .units → b ≤ D .units → label a ≡ hi → label b ≡ lo → Joined D (Below (suc n) e) a b
+      across : (a b : ℕ) → a ≤ D .units → b ≤ D .units → label a ≡ hi → label b ≡ lo → Joined D (Below (n + 1) e) a b
       across a b la lb p q = at two
         where
-          ends : Joined D (Below (suc n) e) (D .from n) (D .to n)
+          ends : Joined D (Below (n + 1) e) (D .from n) (D .to n)
           ends = joined-ends n (omega arith, us)
 
-          at : ((label (D .from n) ≡ lo) × (label (D .to n) ≡ hi)) ⊎ ((label (D .from n) ≡ hi) × (label (D .to n) ≡ lo)) → Joined D (Below (suc n) e) a b
+          at : ((label (D .from n) ≡ lo) × (label (D .to n) ≡ hi)) ⊎ ((label (D .from n) ≡ hi) × (label (D .to n) ≡ lo)) → Joined D (Below (n + 1) e) a b
           at (inl s) = joined-trans (was a (D .to n) la tl (p ∙ sym (s .1))) (joined-trans (joined-sym ends) (was (D .from n) b fl lb (s .0 ∙ sym q)))
           at (inr s) = joined-trans (was a (D .from n) la fl (p ∙ sym (s .0))) (joined-trans ends (was (D .to n) b tl lb (s .1 ∙ sym q)))
 
-      joined : (a b : ℕ) → a ≤ D .units → b ≤ D .units → merged a ≡ merged b → Joined D (Below (suc n) e) a b
+      joined : (a b : ℕ) → a ≤ D .units → b ≤ D .units → merged a ≡ merged b → Joined D (Below (n + 1) e) a b
       joined a b la lb q = ⊎-elim
           (λ (pa : label a ≡ hi). ⊎-elim
           (λ (pb : label b ≡ hi). was a b la lb (pa ∙ sym pb))
