@@ -13,5 +13,6 @@ pub mod Theorems
 pub mod Labels
 pub mod Filling
 pub mod Summing
+pub mod Examples
 pub mod Worked
 pub mod WorkedTests

@@ -12,8 +12,12 @@
 -- first-over, second-over  .. with the first or the second flow that it shows of rival
 -- Shown m row              the row is a plant, and for all tables that are long enough it shows what the four questions give
 -- Right w                  .. for a worked plant of either quantity
+-- mapped f o               what f makes of an entry, if there is one
+-- given w                  what is given of a worked plant
+-- Worked-out gs ws         the rows ws are the plants gs, in order, and each is right
 use mathlib.Core.Bool.{false, cond}
-use mathlib.Core.List.{List}
+use mathlib.Core.List.{List, [], _∷_, map}
+use mathlib.Core.Path.{_≡_}
 use Prim.Native.Nat.{ℕ, zero, suc, _≤_, _<_}
 use lib.Dec.{ltb}
 use lib.ListN.{getD}
@@ -36,6 +40,7 @@ use Rattle.flows.specs.declared.worked.Worked.{Worked}
 use Rattle.flows.specs.declared.worked.Worked.the-variants.{OfMasses, OfTotalisers}
 use Rattle.flows.specs.declared.worked.WorkedPlant.{WorkedPlant}
 use Rattle.flows.specs.Drawings.{Drawing, Within}
+use Rattle.flows.specs.Examples.{Given, masses, totalisers}
 use Rattle.flows.specs.Plants.{last-unit, last-number, drawing, readings-of}
 use Rattle.flows.specs.Refusals.{accepted}
 use Rattle.flows.specs.Questions.{meant, unit-places, Surveys, Values, Rivals, Disputes}
@@ -85,3 +90,17 @@ pub record Shown {Q : Type 0} (m : Model Q) (row : WorkedPlant Q) : Type 0 where
 abbrev pub Right : Worked → Type 0
 Right (OfMasses row) = Shown mass-model row
 Right (OfTotalisers row) = Shown totaliser-model row
+
+abbrev pub mapped : {X Y : Type 0} → (X → Y) → Option X → Option Y
+mapped f (Some x) = Some (f x)
+mapped f None = None
+
+abbrev pub given : Worked → Given
+given (OfMasses row) = masses (row .units) (row .ends) (map (λ o. mapped (λ a. a .0) o) (row .amounts)) (row .isolated)
+given (OfTotalisers row) = totalisers (row .units) (row .ends) (map (λ o. mapped (λ a. a .0) o) (row .amounts)) (row .isolated)
+
+abbrev pub Worked-out : List Given → List Worked → Type 0
+Worked-out [] [] = Unit {0}
+Worked-out [] (w ∷ ws) = ⊥
+Worked-out (g ∷ gs) [] = ⊥
+Worked-out (g ∷ gs) (w ∷ ws) = ((given w ≡ g) × Right w) × Worked-out gs ws

@@ -1,11 +1,12 @@
 //! Worked plants, and what the four questions give on each.
 //!
-//! Each plant is a small function; [`worked_plants`] has them in one table. Its contract says of every plant that what it shows
-//! is what the definitions in `specs/` give, where the tables are long enough. It is proved by computing.
+//! Each plant is a small function; [`worked_plants`] has them in one table. Its contract says that they are the plants of
+//! `specs/Examples.antt`, and of each that what it shows is what the definitions give, where the tables are long enough. It is
+//! proved by computing.
 ghost use mathlib.Core.Bool.{true};
 ghost use mathlib.Core.Path.{_≡_};
-ghost use Rattle.std.specs.shelf.Lists.{All};
-ghost use Rattle.flows.specs.Worked.{Right};
+ghost use Rattle.flows.specs.Examples as Examples;
+ghost use Rattle.flows.specs.Worked.{Right, given, Worked-out};
 ghost use Rattle.flows.specs.WorkedTests.{passes};
 use crate::class::Class;
 use crate::class::Class::JustMeasured;
@@ -70,10 +71,10 @@ pub enum Worked {
     OfTotalisers(WorkedPlant<Totaliser>),
 }
 
-/// Hands back a plant that shows what the definitions give on it.
+/// Hands back a plant that passes the test, and so shows what the definitions give on it.
 fn checked(plant: Worked) -> Worked
     requires { ⌜ passes plant ≡ true ⌝ }
-    ensures { λ r. ⌜ Right r ⌝ }
+    ensures { λ r. ⌜ (given r ≡ given plant) × Right r ⌝ }
 {
     plant
 }
@@ -82,7 +83,7 @@ fn checked(plant: Worked) -> Worked
 ///
 /// A search for closed paths that ignored every stream back to the unit it came from would call 2 and 3 observable.
 fn twin() -> Worked
-    ensures { λ r. ⌜ Right r ⌝ }
+    ensures { λ r. ⌜ (given r ≡ Examples.twin) × Right r ⌝ }
 {
     checked(Worked::OfMasses(WorkedPlant {
         units: 3,
@@ -125,7 +126,7 @@ fn twin() -> Worked
 
 /// Twin with stream 5 reading 90: units 1, 2 and 3 take in 100 and give off 90.
 fn twin_in_dispute() -> Worked
-    ensures { λ r. ⌜ Right r ⌝ }
+    ensures { λ r. ⌜ (given r ≡ Examples.twin-in-dispute) × Right r ⌝ }
 {
     checked(Worked::OfMasses(WorkedPlant {
         units: 3,
@@ -164,7 +165,7 @@ fn twin_in_dispute() -> Worked
 ///
 /// All units are then in one part with unit 0. That this part balances does not make the reading of stream 1 redundant.
 fn twin_with_5_isolated() -> Worked
-    ensures { λ r. ⌜ Right r ⌝ }
+    ensures { λ r. ⌜ (given r ≡ Examples.twin-with-5-isolated) × Right r ⌝ }
 {
     checked(Worked::OfMasses(WorkedPlant {
         units: 3,
@@ -216,7 +217,7 @@ fn twin_with_5_isolated() -> Worked
 
 /// A stream into a unit that nothing leaves carries nothing.
 fn dead_end() -> Worked
-    ensures { λ r. ⌜ Right r ⌝ }
+    ensures { λ r. ⌜ (given r ≡ Examples.dead-end) × Right r ⌝ }
 {
     checked(Worked::OfMasses(WorkedPlant {
         units: 1,
@@ -247,7 +248,7 @@ fn dead_end() -> Worked
 
 /// A stream from a unit to itself is a closed path alone.
 fn unread_loop() -> Worked
-    ensures { λ r. ⌜ Right r ⌝ }
+    ensures { λ r. ⌜ (given r ≡ Examples.unread-loop) × Right r ⌝ }
 {
     checked(Worked::OfMasses(WorkedPlant {
         units: 1,
@@ -281,7 +282,7 @@ fn unread_loop() -> Worked
 
 /// A stream from a unit to itself with a meter: no balance confirms it.
 fn read_loop() -> Worked
-    ensures { λ r. ⌜ Right r ⌝ }
+    ensures { λ r. ⌜ (given r ≡ Examples.read-loop) × Right r ⌝ }
 {
     checked(Worked::OfMasses(WorkedPlant {
         units: 1,
@@ -315,7 +316,7 @@ fn read_loop() -> Worked
 
 /// Two units, each with one metered stream to or from unit 0: both parts are in dispute, and dispute takes the lower unit.
 fn two_in_dispute() -> Worked
-    ensures { λ r. ⌜ Right r ⌝ }
+    ensures { λ r. ⌜ (given r ≡ Examples.two-in-dispute) × Right r ⌝ }
 {
     checked(Worked::OfMasses(WorkedPlant {
         units: 2,
@@ -352,7 +353,7 @@ fn two_in_dispute() -> Worked
 
 /// Two counters whose sum rolls over, and an unread stream that carries both amounts away.
 fn rolled_over() -> Worked
-    ensures { λ r. ⌜ Right r ⌝ }
+    ensures { λ r. ⌜ (given r ≡ Examples.rolled-over) × Right r ⌝ }
 {
     checked(Worked::OfTotalisers(WorkedPlant {
         units: 1,
@@ -425,7 +426,7 @@ fn rolled_over() -> Worked
 
 /// A closed path through unit 0 counts as any other: nobody can know how much goes round.
 fn through_unit_0() -> Worked
-    ensures { λ r. ⌜ Right r ⌝ }
+    ensures { λ r. ⌜ (given r ≡ Examples.through-unit-0) × Right r ⌝ }
 {
     checked(Worked::OfMasses(WorkedPlant {
         units: 2,
@@ -465,7 +466,7 @@ fn through_unit_0() -> Worked
 
 /// A reading inside one part without unit 0: whatever it is, stream 1 can carry the same, so it is just measured.
 fn inside_one_part() -> Worked
-    ensures { λ r. ⌜ Right r ⌝ }
+    ensures { λ r. ⌜ (given r ≡ Examples.inside-one-part) × Right r ⌝ }
 {
     checked(Worked::OfMasses(WorkedPlant {
         units: 2,
@@ -508,7 +509,7 @@ fn inside_one_part() -> Worked
 ///
 /// Number 1 is out of use, although the source still has a reading of it.
 fn read_across_the_cut() -> Worked
-    ensures { λ r. ⌜ Right r ⌝ }
+    ensures { λ r. ⌜ (given r ≡ Examples.read-across-the-cut) × Right r ⌝ }
 {
     checked(Worked::OfMasses(WorkedPlant {
         units: 2,
@@ -551,7 +552,7 @@ fn read_across_the_cut() -> Worked
 
 /// The worked plants, each with what survey, value, rival and dispute give on it.
 pub fn worked_plants() -> [Worked; 11]
-    ensures { λ r. ⌜ All Right r ⌝ }
+    ensures { λ r. ⌜ Worked-out Examples.plants r ⌝ }
 {
     [
         twin(),
