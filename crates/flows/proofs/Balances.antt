@@ -13,7 +13,7 @@ use Rattle.flows.specs.Drawings.{Drawing, Within}
 use Rattle.flows.specs.Flows.{pick, total, arriving, departing, net, Balanced}
 use Rattle.flows.proofs.Groups.{minus-zero, same-from-difference, made-up}
 use Rattle.flows.proofs.Nets.{crossing, net-is, net-same, net-plus, net-from-not}
-use Rattle.flows.proofs.Sums.{sum-none, sum-plus, sum-minus, sum-pick, sum-swap, sum-one}
+use Rattle.flows.proofs.Sums.{pick-zero, sum-none, sum-plus, sum-minus, sum-pick, sum-swap, sum-one}
 
 -- a place alone
 abbrev pub alone : ℕ → ℕ → Bool
@@ -52,24 +52,20 @@ module _ (G : Group) (D : Drawing) (within : Within D) where
       ∙ sum-swap G (D .size) (suc (D .units)) (λ k v. pick G (C v) (crossing G D (alone v) f k))
       ∙ sum-same G (suc (D .units)) _ _ (λ v _. sum-pick G (D .size) (C v) (crossing G D (alone v) f) ∙ ap (pick G (C v)) (sym (net-is G D (alone v) f)))
     where
-      none : (p : Bool) → pick G p (G .zero) ≡ G .zero
-      none true = refl
-      none false = refl
-
-      no-place-twice : (c p q : Bool) (x : Element) → pick G c (plus (pick G p x) (minus (pick G q x))) ≡ plus (pick G p (pick G c x)) (minus (pick G q (pick G c x)))
-      no-place-twice true p q x = refl
-      no-place-twice false p q x = sym (ap₂ plus (none p) (ap minus (none q) ∙ minus-zero G) ∙ unit _)
+      spread : (c p q : Bool) (x : Element) → pick G c (plus (pick G p x) (minus (pick G q x))) ≡ plus (pick G p (pick G c x)) (minus (pick G q (pick G c x)))
+      spread true p q x = refl
+      spread false p q x = sym (ap₂ plus (pick-zero G p) (ap minus (pick-zero G q) ∙ minus-zero G) ∙ unit _)
 
       at : (b : Bool) (i j : ℕ) (x : Element) → (b ≡ true → i ≤ D .units) → (b ≡ true → j ≤ D .units)
           → pick G b (plus (pick G (C i) x) (minus (pick G (C j) x)))
           ≡ sum G (suc (D .units)) (λ v. pick G (C v) (pick G b (plus (pick G (eqb i v) x) (minus (pick G (eqb j v) x)))))
       at true i j x hi hj = sym (
-          sum-same G (suc (D .units)) _ _ (λ v _. no-place-twice (C v) (eqb i v) (eqb j v) x)
+          sum-same G (suc (D .units)) _ _ (λ v _. spread (C v) (eqb i v) (eqb j v) x)
           ∙ sum-plus G (suc (D .units)) (λ v. pick G (eqb i v) (pick G (C v) x)) (λ v. minus (pick G (eqb j v) (pick G (C v) x)))
           ∙ ap₂ plus
           (sum-one G (suc (D .units)) i (λ v. pick G (C v) x) (omega (arith, hi refl)))
           (sum-minus G (suc (D .units)) (λ v. pick G (eqb j v) (pick G (C v) x)) ∙ ap minus (sum-one G (suc (D .units)) j (λ v. pick G (C v) x) (omega (arith, hj refl)))))
-      at false i j x hi hj = sym (sum-none G (suc (D .units)) _ (λ v _. none (C v)))
+      at false i j x hi hj = sym (sum-none G (suc (D .units)) _ (λ v _. pick-zero G (C v)))
 
   -- a set without places has no net amount
   pub net-empty : (C : ℕ → Bool) (f : ℕ → Element) → ((v : ℕ) → v ≤ D .units → C v ≡ false) → net G D C f ≡ G .zero

@@ -5,7 +5,7 @@ use mathlib.Core.Path.{_≡_, refl, sym, ap, ap₂, _∙_, subst}
 use native.Mathlib.Omega.{arith}
 use Prim.Native.Nat.{ℕ, _≤_, _<_}
 use lib.Dec.{eqb}
-use Rattle.std.proofs.shelf.Tests.{cases-bool, cases-lt, eq-eqb, ne-eqb, eqb-true, and-parts, and-from, and-left, not-true, not-from-false}
+use Rattle.std.proofs.shelf.Tests.{cases-bool, cases-lt, eq-eqb, ne-eqb, and-parts, and-from, and-left, not-true, not-from-false}
 use Rattle.std.specs.Orderings.{Decides}
 use Rattle.quantity.specs.Group.{Group}
 use Rattle.flows.specs.Classes.{Ends-in-one-part, Is}
@@ -14,12 +14,12 @@ use Rattle.flows.specs.declared.class.Class.{Class}
 use Rattle.flows.specs.declared.class.Class.the-variants.{OutOfUse, Observable, Unobservable, Redundant, JustMeasured}
 use Rattle.flows.specs.Drawings.{Drawing, In-use, Within}
 use Rattle.flows.specs.Flows.{pick, total-below, total, net, net-below}
-use Rattle.flows.specs.Labels.{Below}
-use Rattle.flows.specs.Parts.{Unread, Others, Part, Linked}
+use Rattle.flows.specs.Labels.{Below, Labels}
+use Rattle.flows.specs.Parts.{Unread, Others, Part, Linked, From-side}
 use Rattle.flows.specs.Paths.{Closed-path}
 use Rattle.flows.proofs.Computed.{label-is}
-use Rattle.flows.proofs.Joins.{joined-map, part-map}
-use Rattle.flows.proofs.Merging.{labels-part}
+use Rattle.flows.proofs.Joins.{joined-map}
+use Rattle.flows.proofs.Merging.{labels-decide, labels-map, labels-part}
 use Rattle.flows.proofs.Paths.{joined-from-closed-path, closed-path-from-joined}
 use Rattle.flows.proofs.Sums.{sum-short}
 
@@ -56,25 +56,21 @@ module _ (D : Drawing) (R : ℕ → Bool) where
     from-others n k o = let b = from-unread k (o .0) in (b .0, and-from (unread D R k) (not (eqb k n)) (b .1) (not-from-false (eqb k n) (ne-eqb k n (o .1))))
 
     module _ (within : Within D) where
-      pub part-is : (v : ℕ) → v ≤ D .units → Part D (Unread D R) v (part D R m v)
-      part-is v lv = part-map to-unread from-unread (labels-part D (Below m (unread D R)) (label D (unread D R) m) (label-is D (unread D R) within (λ k _. unread-used k) m (above .size)) v lv)
+      unread-labels : Labels D (Unread D R) (label D (unread D R) m)
+      unread-labels = labels-map D (label D (unread D R) m) to-unread from-unread (label-is D (unread D R) within (λ k _. unread-used k) m (above .size))
 
-      pub side-is : (n : ℕ) → In-use D n → Part D (Others (Unread D R) n) (D .from n) (from-side D R m n)
-      side-is n us = part-map (to-others n) (from-others n)
-          (labels-part D (Below m (unread-but D R n)) (label D (unread-but D R n) m) (label-is D (unread-but D R n) within (λ k _. unread-but-used n k) m (above .size)) (D .from n) (within .from n us))
+      others-labels : (n : ℕ) → Labels D (Others (Unread D R) n) (label D (unread-but D R n) m)
+      others-labels n = labels-map D (label D (unread-but D R n) m) (to-others n) (from-others n) (label-is D (unread-but D R n) within (λ k _. unread-but-used n k) m (above .size))
+
+      pub part-is : (v : ℕ) → v ≤ D .units → Part D (Unread D R) v (part D R m v)
+      part-is v lv = labels-part D (Unread D R) (label D (unread D R) m) unread-labels v lv
+
+      pub side-is : (n : ℕ) → In-use D n → From-side D R n (from-side D R m n)
+      side-is n us = labels-part D (Others (Unread D R) n) (label D (unread-but D R n) m) (others-labels n) (D .from n) (within .from n us)
 
       -- the ends of n have one label exactly if the other unread streams join them
       pub linked-decides : (n : ℕ) → In-use D n → Decides (linked D R m n) (Linked D R n)
-      linked-decides n us = (
-        λ e. p .0 (turn (label D (unread-but D R n) m (D .from n)) (label D (unread-but D R n) m (D .to n)) e),
-        λ j. turn (label D (unread-but D R n) m (D .to n)) (label D (unread-but D R n) m (D .from n)) (p .1 j),
-      )
-        where
-          turn : (a b : ℕ) → eqb a b ≡ true → eqb b a ≡ true
-          turn a b e = eq-eqb b a (sym (eqb-true a b e))
-
-          p : (from-side D R m n (D .to n) ≡ true → Linked D R n) × (Linked D R n → from-side D R m n (D .to n) ≡ true)
-          p = side-is n us (D .to n) (within .to n us)
+      linked-decides n us = labels-decide D (Others (Unread D R) n) (label D (unread-but D R n) m) (others-labels n) (D .from n) (D .to n) (within .from n us) (within .to n us)
 
   -- a read stream is none of the unread ones
   pub linked-from-one-part : (n : ℕ) → R n ≡ true → Ends-in-one-part D R n → Linked D R n

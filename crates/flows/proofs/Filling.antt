@@ -22,7 +22,7 @@ use Rattle.flows.proofs.Computed.{label-is}
 use Rattle.flows.proofs.Groups.{unit-r, minus-zero}
 use Rattle.flows.proofs.Joins.{joined-uncrossed}
 use Rattle.flows.proofs.Nets.{crossing, net-is, net-plus, net-same, net-from-not, net-less}
-use Rattle.flows.proofs.Sums.{sum-one}
+use Rattle.flows.proofs.Sums.{pick-zero, sum-one}
 
 -- labels by the streams of S give the side of the from place of n
 pub labels-side : (D : Drawing) (S : ℕ → Type 0) → Within D → (n : ℕ) (label : ℕ → ℕ) → D .from n ≤ D .units → Labels D S label → Fill-side D S n (λ w. eqb (label w) (label (D .from n)))
@@ -59,13 +59,9 @@ module _ (G : Group) (D : Drawing) where
       ∙ sum-one G (D .size) n (crossing G D C (λ _. x)) (us .0)
       ∙ ap (λ u. pick G u (plus (pick G (C (D .from n)) x) (minus (pick G (C (D .to n)) x)))) (us .1))
     where
-      none : (p : Bool) → pick G p (G .zero) ≡ G .zero
-      none true = refl
-      none false = refl
-
       at : (q u a b : Bool) → pick G u (plus (pick G a (pick G q x)) (minus (pick G b (pick G q x)))) ≡ pick G q (pick G u (plus (pick G a x) (minus (pick G b x))))
       at true u a b = refl
-      at false u a b = ap (pick G u) (ap₂ plus (none a) (ap minus (none b) ∙ minus-zero G) ∙ unit _) ∙ none u
+      at false u a b = ap (pick G u) (ap₂ plus (pick-zero G a) (ap minus (pick-zero G b) ∙ minus-zero G) ∙ unit _) ∙ pick-zero G u
 
   -- a set that n alone of S may cross is uncrossed where n has both ends in it or both outside
   uncrossed-more : (S T : ℕ → Type 0) (n : ℕ) → ((k : ℕ) → S k → T k ⊎ (k ≡ n)) → (C : ℕ → Bool) → Uncrossed D T C → C (D .from n) ≡ C (D .to n) → Uncrossed D S C

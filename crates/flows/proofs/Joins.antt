@@ -50,10 +50,6 @@ module _ {D : Drawing} where
       (λ i. p (D .to k) (w k s .1) .1 (joined-trans (p (D .from k) (w k s .0) .0 i) ends))
       (λ i. p (D .from k) (w k s .0) .1 (joined-trans (p (D .to k) (w k s .1) .0 i) (joined-sym ends)))
 
-  -- sets of streams with the same members have the same parts
-  pub part-map : {S T : ℕ → Type 0} {v : ℕ} {C : ℕ → Bool} → ((k : ℕ) → S k → T k) → ((k : ℕ) → T k → S k) → Part D S v C → Part D T v C
-  part-map f g p w lw = (λ i. joined-map f (p w lw .0 i), λ j. p w lw .1 (joined-map g j))
-
   -- a place that streams join to a place within the drawing is within it
   pub joined-within : {S : ℕ → Type 0} {a b : ℕ} → ((k : ℕ) → S k → (D .from k ≤ D .units) × (D .to k ≤ D .units)) → a ≤ D .units → Joined D S a b → b ≤ D .units
   joined-within w la here = la

@@ -9,7 +9,7 @@ use Rattle.quantity.proofs.GroupSums.{sum-same}
 use Rattle.flows.specs.Drawings.{Drawing, In-use}
 use Rattle.flows.specs.Flows.{pick, total, net, net-below}
 use Rattle.flows.proofs.Groups.{unit-r, middle, minus-zero, minus-plus}
-use Rattle.flows.proofs.Sums.{sum-none, sum-plus, sum-minus}
+use Rattle.flows.proofs.Sums.{pick-zero, sum-none, sum-plus, sum-minus}
 
 module _ (G : Group) (D : Drawing) where
   open Group G using (Element, plus, minus, unit, inverse)
@@ -71,12 +71,8 @@ module _ (G : Group) (D : Drawing) where
   unfolding crossing
   net-none C f h = net-same C f (λ _. G .zero) h ∙ net-is C (λ _. G .zero) ∙ sum-none G (D .size) _ (λ k _. at (D .used k) (C (D .from k)) (C (D .to k)))
     where
-      zero-pick : (b : Bool) → pick G b (G .zero) ≡ G .zero
-      zero-pick true = refl
-      zero-pick false = refl
-
       at : (u a b : Bool) → pick G u (plus (pick G a (G .zero)) (minus (pick G b (G .zero)))) ≡ G .zero
-      at u a b = ap (pick G u) (ap₂ plus (zero-pick a) (ap minus (zero-pick b) ∙ minus-zero G) ∙ unit _) ∙ zero-pick u
+      at u a b = ap (pick G u) (ap₂ plus (pick-zero G a) (ap minus (pick-zero G b) ∙ minus-zero G) ∙ unit _) ∙ pick-zero G u
 
   pub net-plus : (C : ℕ → Bool) (f g : ℕ → Element) → net G D C (λ k. plus (f k) (g k)) ≡ plus (net G D C f) (net G D C g)
   unfolding crossing

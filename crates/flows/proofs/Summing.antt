@@ -11,6 +11,7 @@ use Rattle.flows.specs.Drawings.{Drawing}
 use Rattle.flows.specs.Flows.{pick, total, net}
 use Rattle.flows.specs.Summing.{net-so-far}
 use Rattle.flows.proofs.Groups.{unit-r, minus-zero}
+use Rattle.flows.proofs.Sums.{pick-zero}
 use Rattle.flows.proofs.Nets.{crossing, net-below-is}
 
 module _ (G : Group) (D : Drawing) (C : ℕ → Bool) (f : ℕ → G .Element) where
@@ -41,11 +42,7 @@ module _ (G : Group) (D : Drawing) (C : ℕ → Bool) (f : ℕ → G .Element) w
   net-unused n e = net-case n false (C (D .from n)) (C (D .to n)) (G .zero) e refl refl refl ∙ unit-r G _
 
   pub net-inside : (n : ℕ) → C (D .from n) ≡ C (D .to n) → net-so-far G D (n + 1) C f ≡ net-so-far G D n C f
-  net-inside n e = net-case n (D .used n) (C (D .to n)) (C (D .to n)) (G .zero) refl e refl (ap (pick G (D .used n)) (inverse _) ∙ none (D .used n)) ∙ unit-r G _
-    where
-      none : (p : Bool) → pick G p (G .zero) ≡ G .zero
-      none true = refl
-      none false = refl
+  net-inside n e = net-case n (D .used n) (C (D .to n)) (C (D .to n)) (G .zero) refl e refl (ap (pick G (D .used n)) (inverse _) ∙ pick-zero G (D .used n)) ∙ unit-r G _
 
   pub net-leaves : (n : ℕ) → D .used n ≡ true → C (D .from n) ≡ true → C (D .to n) ≡ false → net-so-far G D (n + 1) C f ≡ plus (net-so-far G D n C f) (f n)
   net-leaves n u i o = net-case n true true false (f n) u i o (ap (plus (f n)) (minus-zero G) ∙ unit-r G (f n))

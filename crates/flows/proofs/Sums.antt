@@ -14,6 +14,11 @@ use Rattle.flows.proofs.Groups.{unit-r, middle, minus-zero, minus-plus}
 module _ (G : Group) where
   open Group G using (Element, plus, minus, unit)
 
+  -- zero is picked or not, alike
+  pub pick-zero : (b : Bool) → pick G b (G .zero) ≡ G .zero
+  pick-zero true = refl
+  pick-zero false = refl
+
   pub sum-none : (n : ℕ) (h : ℕ → Element) → ((k : ℕ) → k < n → h k ≡ G .zero) → sum G n h ≡ G .zero
   sum-none zero h e = refl
   sum-none (suc n) h e = ap₂ plus (sum-none n h (λ k b. e k (omega arith))) (e n (omega arith)) ∙ unit (G .zero)

@@ -41,11 +41,12 @@ use Rattle.flows.specs.Plants.{last-unit, last-number, from-unit, to-unit}
 use Rattle.flows.specs.Questions.{unit-places, holds, count, Survey-fits, Value-fits, Rival-fits, Dispute-fits, by-reading, by-cut-sum, no-amount, Written, Surveys, Values, Rivals, Disputes}
 use Rattle.flows.specs.Refusals.{number, accepted}
 use Rattle.flows.specs.Worked.{plan, shown-readings, classes-over, flow-over, first-over, second-over, marks-over, Shown, Right}
+use Rattle.flows.specs.Theorems.{Decided}
 use Rattle.flows.specs.WorkedTests.{all-below, every, none-fits, smallest, within-test, same-mark, first-mark, top, is-consistent, has-class, shape, survey-fits, value-fits, rival-fits, dispute-fits, counted, survey-right, reads, value-right, flow-of, allows, flow-right, rival-right, dispute-right, row-right, passes}
 use Rattle.flows.proofs.Cuts.{ends-within}
-use Rattle.flows.proofs.Decisions.{fails, part-is, class-is, class-only, total-short, net-short}
-use Rattle.flows.proofs.Results.{cut-sum-is}
-use Rattle.flows.proofs.PartNets.{undisputed-part, disputed-part, all-undisputed-each, consistent-if, inconsistent-if, not-both}
+use Rattle.flows.proofs.Decisions.{fails, part-is, total-short, net-short}
+use Rattle.flows.proofs.Agreement.{decisions-are-right}
+use Rattle.flows.proofs.PartNets.{undisputed-part, disputed-part, all-undisputed-each}
 use Rattle.flows.proofs.Joins.{joined-within}
 use Rattle.flows.proofs.Tallies.{how-many-same, how-many-short, count-is}
 
@@ -187,17 +188,14 @@ module _ {Q : Type 0} (m : Model Q) (s : Comparison (m .group)) (row : WorkedPla
           (λ past. subst (λ o. (from-unit o ≤ row .units) × (to-unit o ≤ row .units)) (sym (getD-past (row .ends) k None past)) (omega arith, omega arith))
           (cases-lt k (length (row .ends)))
 
+  decided : Decided (m .group) D t (top m s row)
+  decided = decisions-are-right (m .group) D within-row t (top m s row) above
+
   consistent-decides : Decides (is-consistent m s row) (plant.Consistent (m .group) D t)
-  consistent-decides = (
-    consistent-if (m .group) D within-row t s (top m s row) above,
-    λ h. ⊎-elim (λ e. e) (λ e. absurd (not-both (m .group) D within-row t h (inconsistent-if (m .group) D within-row t s (top m s row) above e))) (cases-bool (is-consistent m s row)),
-  )
+  consistent-decides = decided .consistent s
 
   inconsistent-decides : Decides (not (is-consistent m s row)) (plant.Inconsistent (m .group) D t)
-  inconsistent-decides = (
-    λ e. inconsistent-if (m .group) D within-row t s (top m s row) above (not-true (is-consistent m s row) e),
-    λ i. not-from-false (is-consistent m s row) (fails (is-consistent m s row) (λ e. not-both (m .group) D within-row t (consistent-decides .0 e) i)),
-  )
+  inconsistent-decides = decided .inconsistent s
 
   unused-decides : (k : ℕ) → k < last-number → Decides (not (D .used (suc k))) (¬ In-use D (suc k))
   unused-decides k lt = (
@@ -206,10 +204,7 @@ module _ {Q : Type 0} (m : Model Q) (s : Comparison (m .group)) (row : WorkedPla
   )
 
   class-decides : (c : Class) (n : ℕ) → n < D .size → Decides (has-class m s row c n) (Is D R c n)
-  class-decides c n lt = (
-    λ e. subst (λ d. Is D R d n) (byte-same _ c (eqb-true _ (byte c) e)) (class-is D within-row R (top m s row) above n lt),
-    λ h. eq-eqb _ (byte c) (ap byte (sym (class-only D within-row R (top m s row) above n lt c h))),
-  )
+  class-decides c n lt = (λ e. decided .class n lt c .1 (sym (byte-same _ c (eqb-true _ (byte c) e))), λ h. eq-eqb _ (byte c) (ap byte (sym (decided .class n lt c .0 h))))
 
   survey-decides : (places : ℕ) → last-number ≤ places → (f : QuestionFault) → Decides (survey-fits m s row f) (Survey-fits m D t places f)
   survey-decides places le Inconsistent = inconsistent-decides
@@ -336,7 +331,7 @@ module _ {Q : Type 0} (m : Model Q) (s : Comparison (m .group)) (row : WorkedPla
       used none = (omega arith, ⊎-elim (λ e. e) (λ e. absurd (none NotInUse (λ us. true≢false (sym (us .1) ∙ e)))) (cases-bool (D .used (suc k))))
 
       cut-shown : In-use D (suc k) → s .same (cut-sum (m .group) D t (top m s row) (suc k)) (m .means x) ≡ true → plant.Cut-sum (m .group) D t (suc k) (m .means x)
-      cut-shown us e = cut-sum-is (m .group) D t (top m s row) above within-row (suc k) us (m .means x) (sym (s .decides _ _ .0 e))
+      cut-shown us e = decided .cut-sum (suc k) us (m .means x) .1 (sym (s .decides _ _ .0 e))
 
   allows-is : (o : Option (m .group .Element)) (x y : m .group .Element) → allows m s row o x ≡ true → o ≡ Some y → x ≡ y
   allows-is o x y h e = s .decides x y .0 (sym (ap (λ o. allows m s row o x) e) ∙ h)

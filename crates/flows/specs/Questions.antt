@@ -23,6 +23,7 @@ use mathlib.Core.Logic.{_⊎_}
 use mathlib.Core.Path.{_≡_}
 use Prim.Native.Nat.{ℕ, zero, suc, _+_, _≤_, _<_}
 use lib.Dec.{eqb}
+use Rattle.std.specs.Options.{mapped}
 use Rattle.std.specs.declared.option.Option.{Option}
 use Rattle.std.specs.declared.option.Option.the-variants.{None, Some}
 use Rattle.std.specs.declared.result.Result.{Result}
@@ -44,8 +45,7 @@ abbrev pub unit-places : ℕ
 unit-places = suc last-unit
 
 abbrev pub meant : {Q : Type 0} (m : Model Q) → Option Q → Option (m .group .Element)
-meant m (Some a) = Some (m .means a)
-meant m None = None
+meant m a = mapped (m .means) a
 
 abbrev pub how-many : (ℕ → Bool) → ℕ → ℕ
 how-many p zero = 0

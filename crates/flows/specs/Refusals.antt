@@ -6,6 +6,7 @@
 --                of what it answers; where it is refused, the refusal given fits, none with a smaller number does, and Kept holds
 -- accepted f r   what f makes of an accepted answer; a refusal stays as it is
 use Prim.Native.Nat.{ℕ, _≤_}
+use Rattle.std.specs.Results.{mapped}
 use Rattle.std.specs.declared.result.Result.{Result}
 use Rattle.std.specs.declared.result.Result.the-variants.{Ok, Err}
 use Rattle.flows.specs.declared.fault.QuestionFault.{QuestionFault}
@@ -24,5 +25,4 @@ Answer {T} {F} number Fits Done Kept (Ok x) = ((f : F) → ¬ Fits f) × Done x
 Answer {T} {F} number Fits Done Kept (Err f) = Fits f × ((g : F) → Fits g → number f ≤ number g) × Kept
 
 abbrev pub accepted : {T U F : Type 0} → (T → U) → Result T F → Result U F
-accepted f (Ok x) = Ok (f x)
-accepted f (Err e) = Err e
+accepted f r = mapped f (λ e. e) r

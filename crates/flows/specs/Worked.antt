@@ -12,7 +12,6 @@
 -- first-over, second-over  .. with the first or the second flow that it shows of rival
 -- Shown m row              the row is a plant, and for all tables that are long enough it shows what the four questions give
 -- Right w                  .. for a worked plant of either quantity
--- mapped f o               what f makes of an entry, if there is one
 -- given w                  what is given of a worked plant
 -- Worked-out gs ws         the rows ws are the plants gs, in order, and each is right
 use mathlib.Core.Bool.{false, cond}
@@ -21,6 +20,7 @@ use mathlib.Core.Path.{_≡_}
 use Prim.Native.Nat.{ℕ, zero, suc, _≤_, _<_}
 use lib.Dec.{ltb}
 use lib.ListN.{getD}
+use Rattle.std.specs.Options.{mapped}
 use Rattle.std.specs.Runs.{nth}
 use Rattle.std.specs.declared.option.Option.{Option}
 use Rattle.std.specs.declared.option.Option.the-variants.{None, Some}
@@ -90,10 +90,6 @@ pub record Shown {Q : Type 0} (m : Model Q) (row : WorkedPlant Q) : Type 0 where
 abbrev pub Right : Worked → Type 0
 Right (OfMasses row) = Shown mass-model row
 Right (OfTotalisers row) = Shown totaliser-model row
-
-abbrev pub mapped : {X Y : Type 0} → (X → Y) → Option X → Option Y
-mapped f (Some x) = Some (f x)
-mapped f None = None
 
 abbrev pub given : Worked → Given
 given (OfMasses row) = masses (row .units) (row .ends) (map (λ o. mapped (λ a. a .0) o) (row .amounts)) (row .isolated)

@@ -42,7 +42,7 @@ use Rattle.flows.specs.Classes.{byte}
 use Rattle.flows.specs.Comparisons.{Comparison, compare-residues}
 use Rattle.flows.specs.Decisions.{class, part, undisputed, all-undisputed, consistent, cut-sum}
 use Rattle.flows.specs.declared.class.Class.{Class}
-use Rattle.flows.specs.declared.class.Class.the-variants.{OutOfUse, Observable, Unobservable, Redundant}
+use Rattle.flows.specs.declared.class.Class.the-variants.{OutOfUse, Observable, Unobservable, Redundant, JustMeasured}
 use Rattle.flows.specs.declared.ends.Ends.{Ends}
 use Rattle.flows.specs.declared.fault.QuestionFault.{QuestionFault}
 use Rattle.flows.specs.declared.fault.QuestionFault.the-variants.{NumberOutside, TableTooShort, NotInUse, Inconsistent, Determined, Consistent}
@@ -144,7 +144,7 @@ module _ {Q : Type 0} (m : Model Q) (s : Comparison (m .group)) (row : WorkedPla
   abbrev pub survey-right : Result Survey QuestionFault → Bool
   survey-right (Ok v) = none-fits survey-fits && (is-consistent && (eqb (length (v .classes)) (length (row .ends))
       && (all-below (λ k. has-class (getD (v .classes) k OutOfUse) (suc k)) (length (row .ends))
-      && (eqb (v .counts .0) (counted v 1) && (eqb (v .counts .1) (counted v 2) && (eqb (v .counts .2) (counted v 3) && eqb (v .counts .3) (counted v 4)))))))
+      && (eqb (v .counts .0) (counted v (byte Observable)) && (eqb (v .counts .1) (counted v (byte Unobservable)) && (eqb (v .counts .2) (counted v (byte Redundant)) && eqb (v .counts .3) (counted v (byte JustMeasured))))))))
   survey-right (Err f) = smallest survey-fits f
 
   -- whether a reading has the amount x
