@@ -37,7 +37,7 @@ module _ (zs : List ℤ) where
   counted k = get_or zs k (pos 0)
 
   -- a 64-bit number that is the sum of few bounded numbers modulo 2^64 is their sum
-  bounded_sum : length zs ≤ 1024 → All Bounded zs → (r : ℤ) → SFits w64 r → grams r ≡ sum_all counts (map grams zs) → r ≡ sum_all whole zs
+  bounded_sum : length zs ≤ 1024 → AllByRecursion Bounded zs → (r : ℤ) → SFits w64 r → grams r ≡ sum_all counts (map grams zs) → r ≡ sum_all whole zs
   bounded_sum few each r fits e =
       let n = length zs in
       let counts_same : (k : ℕ) → k < n → grams (counted k) ≡ get_or (map grams zs) k counts.zero =
