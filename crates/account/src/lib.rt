@@ -1,4 +1,6 @@
 //! A month's account of one meter: its daily amounts, read from lines of text, and the running total.
+#![tactic(auto)]
+
 pub mod entry;
 pub mod fault;
 pub mod lines;

@@ -10,7 +10,7 @@ use std::alloc::Global;
 
 /// Whether the line at this place is passed over: it is empty, begins with `#`, or is the heading in the first place.
 pub fn is_passed_over<Q: Metered>(place: usize, line: &str) -> bool
-    ensures { Decides result (Passed heading place line.now) }
+    ensures { Decides result (Passed Q.heading place line.now) }
 {
     match line.as_bytes() {
         [] | [b'#', ..] => true,
@@ -36,7 +36,7 @@ fn cut_at_space(line: &str) -> Option<(&str, &str)>
 
 /// The entry that the line gives, for a later day than `latest`: the day, one space, the amount.
 pub fn read_entry<Q: Metered>(line: &str, latest: u8) -> Result<Entry<Q>, Fault>
-    ensures { MatchResult result (λ e. Gives writes line.now e × (latest < e.day)) (λ f. NoEntry writes line.now latest f) }
+    ensures { MatchResult result (λ e. Gives Q.writes line.now e × (latest < e.day)) (λ f. NoEntry Q.writes line.now latest f) }
 {
     let Some((day, amount)) = cut_at_space(line) else {
         return Err(Fault::NoSpace);
@@ -58,7 +58,7 @@ pub fn read_entry<Q: Metered>(line: &str, latest: u8) -> Result<Entry<Q>, Fault>
 /// The heading in the first line, and lines that are empty or begin with `#`, are passed over. The first other line that
 /// gives no next entry is named, and nothing is read after it.
 pub fn read_entries<Q: Metered>(heap: Global, lines: &[&str]) -> Result<Vec<Entry<Q>>, ReadError>
-    ensures { MatchResult result (λ v. Entries writes heading (texts lines.now) v.items) (λ e. NotRead writes heading (texts lines.now) e) }
+    ensures { MatchResult result (λ v. Entries Q.writes Q.heading (texts lines.now) v.items) (λ e. NotRead Q.writes Q.heading (texts lines.now) e) }
 {
     let mut entries = Vec::new(heap);
     let mut latest = 0;

@@ -22,7 +22,7 @@ pub enum Month {
 
 // Whether the first line is the heading of the quantity.
 fn is_headed<Q: Metered>(lines: &[&str]) -> bool
-    ensures { Decides result (Headed heading (texts lines.now)) }
+    ensures { Decides result (Headed Q.heading (texts lines.now)) }
 {
     match lines {
         [first, ..] => *first == Q::heading(),

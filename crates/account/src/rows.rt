@@ -43,7 +43,7 @@ pub struct Account<Q> {
 impl<Q: Quantity> Account<Q> {
     /// The account of the entries, in their order.
     pub fn new(heap: Global, entries: &[Entry<Q>]) -> Result<Account<Q>, AllocError>
-        ensures { IfOk result (λ a. Keeps model entries.now a.rows.items a.total) }
+        ensures { IfOk result (λ a. Keeps Q.model entries.now a.rows.items a.total) }
     {
         let mut rows = Vec::with_capacity(heap, entries.len())?;
         let mut total = Q::zero();

@@ -2,6 +2,7 @@
 //!
 //! The crate has no algorithm. Its definitions are in `specs/`; its theorems are the contracts of the functions in
 //! [`theorems`].
+#![tactic(auto)]
 
 pub mod class;
 pub mod ends;

@@ -11,32 +11,32 @@ use quantity::Quantity;
 
 /// A balanced flow has net zero over every set of places, with or without the surroundings.
 pub fn balanced_flows_have_no_net<Q: Quantity>()
-    ensures { BalancedFlowsHaveNoNet model.group }
+    ensures { BalancedFlowsHaveNoNet Q.model.group }
 {}
 
 /// Some balanced flow agrees with the readings exactly if each part without the surroundings has the net amount zero; where
 /// each has, the flow is constructed.
 pub fn some_flow_exactly_if_consistent<Q: Quantity>()
-    ensures { SomeFlowExactlyIfConsistent model.group }
+    ensures { SomeFlowExactlyIfConsistent Q.model.group }
 {}
 
 /// Where only read streams cross a set of units without the surroundings and its net amount is not zero, no balanced flow
 /// agrees; nor where the plant is inconsistent.
 pub fn conflict_excludes_flows<Q: Quantity>()
-    ensures { ConflictExcludesFlows model.group }
+    ensures { ConflictExcludesFlows Q.model.group }
 {}
 
 /// It cannot be that no balanced flow agrees and there is no set of units without the surroundings that only read streams
 /// cross and whose net amount is not zero; nor that none agrees and the plant is not inconsistent.
 pub fn flow_or_conflict<Q: Quantity>()
-    ensures { FlowOrConflict model.group }
+    ensures { FlowOrConflict Q.model.group }
 {}
 
 /// Where amounts can be told apart by a test: there is a set of units without the surroundings that only read streams cross
 /// and whose net amount is not zero exactly if no balanced flow agrees, and some balanced flow agrees exactly if the plant is
 /// not inconsistent.
 pub fn conflict_exactly_if_no_flow<Q: Quantity>()
-    ensures { ConflictExactlyIfNoFlow model.group }
+    ensures { ConflictExactlyIfNoFlow Q.model.group }
 {}
 
 /// What masses, totalisers and components mean can be told apart by a test.
@@ -47,7 +47,7 @@ pub fn amounts_can_be_told_apart()
 /// At a stream in use outside a set of streams, the balanced flows that are zero on the set are all zero, or take every
 /// amount. Which of the two is decided by whether streams outside the set, other than itself, join its ends.
 pub fn zero_or_anything<Q: Quantity>()
-    ensures { ZeroOrAnything model.group }
+    ensures { ZeroOrAnything Q.model.group }
 {}
 
 /// Without an observable stream its part falls into two sides: each place of the part is on one, and none on both.
@@ -57,22 +57,22 @@ pub fn two_sides()
 
 /// An observable stream has a cut sum, and carries it in every balanced flow that agrees.
 pub fn observable_carries_its_cut_sum<Q: Quantity>()
-    ensures { ObservableCarriesItsCutSum model.group }
+    ensures { ObservableCarriesItsCutSum Q.model.group }
 {}
 
 /// A redundant stream carries one amount in all balanced flows that agree with the other readings.
 pub fn redundant_carries_one_amount<Q: Quantity>()
-    ensures { RedundantCarriesOneAmount model.group }
+    ensures { RedundantCarriesOneAmount Q.model.group }
 {}
 
 /// Where some balanced flow agrees, for each amount one of them carries it at an unobservable stream.
 pub fn unobservable_carries_anything<Q: Quantity>()
-    ensures { UnobservableCarriesAnything model.group }
+    ensures { UnobservableCarriesAnything Q.model.group }
 {}
 
 /// Where some balanced flow agrees with the other readings, for each amount one carries it at a just-measured stream.
 pub fn just_measured_carries_anything<Q: Quantity>()
-    ensures { JustMeasuredCarriesAnything model.group }
+    ensures { JustMeasuredCarriesAnything Q.model.group }
 {}
 
 /// An unread stream is on a closed path of unread streams exactly if unread streams other than itself join its ends.
@@ -88,26 +88,26 @@ pub fn exactly_one_class()
 /// The class and the cut sum that `specs/Decisions.antt` computes are those of the definitions, and so is the consistency
 /// where amounts can be told apart by a test.
 pub fn decisions_are_right<Q: Quantity>()
-    ensures { DecisionsAreRight model.group }
+    ensures { DecisionsAreRight Q.model.group }
 {}
 
 /// The definitions leave survey at most one answer and one table of classes.
 pub fn survey_answers_agree<Q: Quantity>()
-    ensures { SurveyAnswersAgree model }
+    ensures { SurveyAnswersAgree Q.model }
 {}
 
 /// The definitions leave value at most one answer, by what it means.
 pub fn value_answers_agree<Q: Quantity>()
-    ensures { ValueAnswersAgree model }
+    ensures { ValueAnswersAgree Q.model }
 {}
 
 /// The definitions leave open which flows rival writes, but not whether it is accepted, which number refuses it, or what
 /// the places of numbers out of use then hold.
 pub fn rival_answers_agree<Q: Quantity>()
-    ensures { RivalAnswersAgree model }
+    ensures { RivalAnswersAgree Q.model }
 {}
 
 /// The definitions leave dispute at most one answer, by what it means, and one table of marks.
 pub fn dispute_answers_agree<Q: Quantity>()
-    ensures { DisputeAnswersAgree model }
+    ensures { DisputeAnswersAgree Q.model }
 {}

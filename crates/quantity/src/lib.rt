@@ -3,6 +3,8 @@
 //! A [`Quantity`] is an amount type whose values mean elements of an abelian group. The crate has three: [`Mass`](mass),
 //! [`Totaliser`](totaliser) and [`Components`](components). Code that is generic over `Quantity` is proved from the laws
 //! of a group alone, so it serves all three, and any other type that keeps the laws.
+#![tactic(auto)]
+
 ghost use Rattle.std.specs.Prelude.{◌≡◌, Decides, ◌≢◌};
 ghost use Rattle.quantity.specs.Model.{Model};
 

@@ -10,7 +10,7 @@ use crate::mass::Mass;
 
 /// The sum of the amounts; zero where there are none.
 pub fn total<Q: Quantity>(amounts: &[Q]) -> Q
-    ensures { model.means result ≡ sum_all model.group (map model.means amounts.now) }
+    ensures { Q.model.means result ≡ sum_all Q.model.group (map Q.model.means amounts.now) }
 {
     let mut sum = Q::zero();
     for amount in amounts {

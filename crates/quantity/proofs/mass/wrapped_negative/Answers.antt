@@ -7,5 +7,5 @@ use Rattle.quantity.proofs.mass.wrapped_negative.Goals as goal
 pub returns : goal.returns
 returns c =
     let a = c.args.a in
-    let is : c.wrapping-neg.result ≡ to_z w64 ((2 ^ 64 - of_z w64 a) % 2 ^ 64) = grind (arith, to_z-of_z, c.wrapping-neg.ensures) in
-    ap grams (to_z-of_z w64 c.wrapping-neg.result (search rules) ∙ is) ∙ grams_minus a c.ranges.a
+    let is : c.wrapping_neg.result ≡ to_z w64 ((2 ^ 64 - of_z w64 a) % 2 ^ 64) = grind (arith, to_z-of_z, c.wrapping_neg.ensures) in
+    ap grams (to_z-of_z w64 c.wrapping_neg.result (search rules) ∙ is) ∙ grams_minus a c.ranges.a
