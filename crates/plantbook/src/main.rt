@@ -1,4 +1,6 @@
 //! `plantbook FILE..` prints the month's account of one meter from each file; with no file, from standard input.
+#![tactic(auto)]
+
 use account::month::{Month, read_month};
 use account::rows::{Account, Row};
 use anyhow::anyhow;
