@@ -7,6 +7,7 @@ use anyhow::anyhow;
 use quantity::Quantity;
 use quantity::totaliser::Totaliser;
 use std::fmt::Display;
+use std::process::ExitCode;
 use std::{env, fs, io};
 
 // A line for each day, with the running total.
@@ -84,17 +85,25 @@ fn run_input(rt: &HostRuntime, name: &str, text: io::Result<String>) -> anyhow::
     }
 }
 
-fn main(rt: HostRuntime) -> anyhow::Result<()> {
-    let words: Vec<String> = env::args(&rt)?.collect(rt.alloc())?;
+fn run_inputs(rt: &HostRuntime) -> anyhow::Result<()> {
+    let words: Vec<String> = env::args(rt)?.collect(rt.alloc())?;
     if words.len() <= 1 {
         return run_input(
-            &rt,
+            rt,
             "standard input",
             io::read_to_string(rt.alloc(), rt.stdin()),
         );
     }
     for path in words.iter().skip(1) {
-        run_input(&rt, path.as_str(), fs::read_to_string(&rt, path.as_str()))?;
+        run_input(rt, path.as_str(), fs::read_to_string(rt, path.as_str()))?;
     }
     Ok(())
+}
+
+// An error ends the program with status 1. What there is to say of it is on standard error by then, and nothing is added.
+fn main(rt: HostRuntime) -> ExitCode {
+    match run_inputs(&rt) {
+        Ok(()) => ExitCode::SUCCESS,
+        Err(_) => ExitCode::FAILURE,
+    }
 }
