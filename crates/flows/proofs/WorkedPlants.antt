@@ -10,7 +10,7 @@ use Rattle.quantity.specs.Totalisers.{modulus, totaliser_model}
 use Rattle.flows.specs.Classes.{Is, byte}
 use Rattle.flows.specs.Comparisons.{Comparison, compare_residues}
 use Rattle.flows.specs.Consistency as plant
-use Rattle.flows.specs.Decisions.{Above, part, undisputed, all_undisputed, consistent, cut_sum}
+use Rattle.flows.specs.Decisions.{Above, part, undisputed, all_undisputed, cut_sum}
 use Rattle.flows.specs.declared.class.Class.{Class}
 use Rattle.flows.specs.declared.class.Class.TheVariants.{OutOfUse, Observable, Unobservable, Redundant, JustMeasured}
 use Rattle.flows.specs.declared.ends.Ends.{Ends}
