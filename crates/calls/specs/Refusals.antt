@@ -1,6 +1,6 @@
 -- Refusals: their numbers, and how a call answers. Assumes nothing.
 --
--- number f       the number of each refusal of each call
+-- number f       the number of each refusal of enter, strike, post, withdraw, isolate, restore and the four questions
 -- Answer of Fits Done Kept r
 --                the answer r of a call whose refusals fit as Fits says, `of` saying which call's they are: where it is accepted,
 --                no refusal fits and Done holds of what it answers; where it is refused, the refusal given fits, none with a

@@ -57,7 +57,7 @@ pub enum QuestionFault {
     Consistent,
 }
 
-/// Why a call is refused, whichever call it is.
+/// Why enter, strike, post, withdraw, isolate, restore or one of the four questions is refused.
 #[derive(Clone, Copy, PartialEq, Eq, Debug)]
 pub enum Fault {
     OfPlant(PlantFault),
