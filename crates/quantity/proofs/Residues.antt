@@ -1,9 +1,10 @@
 -- Residues of whole numbers, of 64-bit numbers and of six-digit numbers. Assumes nothing.
-use Rattle.std.proofs.Common.{◌≡◌, ℕ, ◌+◌, ◌-◌, ◌*◌, ◌%◌, ◌^◌, ◌<◌, ◌≤◌, eqb, ltb, ℤ, pos, negsuc, ◌+ℤ◌, nat_abs, Decides, sym, refl, ap, ◌∙◌, ap₂, mod-lt, mod-eq_of_lt, add-mul, mul-le-mul_left, arith, lit<, w64, SFits, to_z, of_z}
+use Rattle.std.proofs.Common.{◌≡◌, ℕ, ◌+◌, ◌-◌, ◌*◌, ◌%◌, ◌^◌, ◌<◌, ◌≤◌, eqb, ltb, ℤ, int_eq, pos, negsuc, ◌+ℤ◌, nat_abs, Decides, sym, refl, ap, ◌∙◌, ap₂, mod-lt, mod-eq_of_lt, add-mul, mul-le-mul_left, arith, lit<, w64, SFits, to_z, of_z}
 use native.Mathlib.Nat.{mod-mod, add-mod}
 use mir.Facts.{sfits_to_z}
 use borrow.Author.Differences.{up, down}
 use Rattle.std.proofs.lemmas.Int.{ints, of_z-to_z, to_z-of_z, int_rem_euclid_is}
+use Rattle.std.proofs.lemmas.Bool.Decides.{Decides-int_eq, Decides-like}
 use Rattle.std.proofs.lemmas.Bool.{eqb-true, eq-eqb, cond-true, cond_both, lt-ltb, ltb-true}
 use Rattle.quantity.specs.Modulo.{Residue, residue_path, residue, modulo}
 use Rattle.quantity.specs.Masses.{counts, grams}
@@ -61,14 +62,14 @@ module _ (a : ℤ) (fits : SFits w64 a) where
         residue_sum (lit< tt) (grams a) (grams b) _ (of_z w64 a) (of_z w64 b) (sym (grams_bits a fits)) (sym (grams_bits b fits_b))
         (grams_of_bits _ (mod-lt _ (lit< tt)))
 
-    pub grams_test : Decides (eqb (of_z w64 a) (of_z w64 b)) (grams a ≡ grams b)
-    grams_test = residue_test (grams a) (grams b) (of_z w64 a) (of_z w64 b) (sym (grams_bits a fits)) (sym (grams_bits b fits_b))
-
     -- 64-bit numbers that mean one count are equal
     pub grams_same : grams a ≡ grams b → a ≡ b
     grams_same e =
         sym (to_z-of_z w64 a fits) ∙ ap (to_z w64) (sym (grams_bits a fits) ∙ ap (λ x. x.0) e ∙ grams_bits b fits_b)
         ∙ to_z-of_z w64 b fits_b
+
+    pub grams_test : Decides (int_eq a b) (grams a ≡ grams b)
+    grams_test = Decides-like _ (ap grams) grams_same (Decides-int_eq a b)
 
 -- a 64-bit number other than 0 means no count of zero
 pub grams_some : (a : ℤ) → SFits w64 a → (a ≡ pos 0 → ⊥) → grams a ≡ counts.zero → ⊥
@@ -89,15 +90,14 @@ advance_taken n = mod-eq_of_lt (taken_below n)
 pub advance_rest : (n : ℕ) → (advance_of (n % modulus)).0 ≡ n % modulus
 advance_rest n = advance_taken (n % modulus) ∙ taken_small (n % modulus) (mod-lt n (lit< tt))
 
-pub advance_plus : (a b r : ℕ) → r ≡ (taken a + taken b) % modulus → advance_of r ≡ advances.plus (advance_of a) (advance_of b)
-advance_plus a b r e =
-    residue_sum (lit< tt) (advance_of a) (advance_of b) (advance_of r) (taken a) (taken b) (sym (advance_taken a)) (sym (advance_taken b))
-    (ap (λ n. (advance_of n).0) e ∙ advance_rest (taken a + taken b))
+pub advance_plus : (a b x y : ℕ) → x ≡ taken a → y ≡ taken b → advance_of ((x + y) % modulus) ≡ advances.plus (advance_of a) (advance_of b)
+advance_plus a b x y p q =
+    residue_sum (lit< tt) (advance_of a) (advance_of b) (advance_of ((x + y) % modulus)) x y (p ∙ sym (advance_taken a)) (q ∙ sym (advance_taken b))
+    (advance_rest (x + y))
 
-pub advance_minus : (a r : ℕ) → r ≡ (modulus - taken a) % modulus → advance_of r ≡ advances.minus (advance_of a)
-advance_minus a r e =
-    residue_negative (lit< tt) (advance_of a) (advance_of r) (taken a) (sym (advance_taken a))
-    (ap (λ n. (advance_of n).0) e ∙ advance_rest (modulus - taken a))
+pub advance_minus : (a x : ℕ) → x ≡ taken a → advance_of ((modulus - x) % modulus) ≡ advances.minus (advance_of a)
+advance_minus a x p =
+    residue_negative (lit< tt) (advance_of a) (advance_of ((modulus - x) % modulus)) x (p ∙ sym (advance_taken a)) (advance_rest (modulus - x))
 
 pub advance_test : (a b x y : ℕ) → x ≡ taken a → y ≡ taken b → Decides (eqb x y) (advance_of a ≡ advance_of b)
 advance_test a b x y p q = residue_test (advance_of a) (advance_of b) x y (p ∙ sym (advance_taken a)) (q ∙ sym (advance_taken b))

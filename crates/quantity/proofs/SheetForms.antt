@@ -1,15 +1,17 @@
 -- What eight bytes hold. Assumes nothing.
-use Rattle.std.proofs.Common.{◌≡◌, ℕ, ◌%◌, ◌<◌, Bool, true, false, cond, ltb, List, ℤ, Some, None, sym, refl, ap, ◌∙◌, w64, SFits, of_z, MatchOption}
+use Rattle.std.proofs.Common.{◌≡◌, ℕ, ◌%◌, ◌^◌, ◌<◌, Bool, true, false, cond, ltb, List, ℤ, Some, None, sym, refl, ap, ◌∙◌, rules, arith, w64, SFits, to_z, of_z, MatchOption}
+use Rattle.std.specs.Bool.{then_some}
+use Rattle.std.specs.Int.{to_le_bytes}
 use mir.Facts.{sfits_to_z}
 use Rattle.std.proofs.lemmas.Bool.{lt-ltb, ltb-true, both_ways}
-use Rattle.std.proofs.lemmas.Int.{of_z-to_z}
+use Rattle.std.proofs.lemmas.Int.{of_z-to_z, to_z-of_z}
 use Rattle.quantity.specs.declared.totaliser.Totaliser.{Totaliser}
 use Rattle.quantity.specs.Bytes.{Eight, little, signed_little}
 use Rattle.quantity.specs.Masses.{grams, mass_model, bounded}
 use Rattle.quantity.specs.Modulo.{residue_path}
-use Rattle.quantity.specs.Sheet.{StandFor, OnlyFor, mass_form, totaliser_form}
+use Rattle.quantity.specs.Sheet.{StandFor, OnlyFor, BytesOf, mass_form, totaliser_form}
 use Rattle.quantity.specs.Totalisers.{modulus, taken, totaliser_model}
-use Rattle.quantity.proofs.EightBytes.{little_below, little_same}
+use Rattle.quantity.proofs.EightBytes.{written_eight, written_little, little_below, little_same}
 use Rattle.quantity.proofs.Residues.{grams_same, taken_small, taken_below, advance_taken}
 
 held_if : {X : Type 0} (t : Bool) (x : X) (P : X → Type 0) → t ≡ true → P x → MatchOption (cond t (Some x) None) ⊥ P
@@ -27,31 +29,43 @@ mass_written z fits bs eight h =
     let held = held_both (bounded (signed_little bs)) (record { 0 = signed_little bs }) (λ b. mass_model.means b ≡ grams z) h in
     (grams_same (signed_little bs) bits z fits held.1, held.0)
 
--- no eight bytes within the bounds stand for a mass outside them
-pub mass_outside : (z : ℤ) → SFits w64 z → bounded z ≡ false → (bs : List ℕ) → Eight bs → StandFor mass_model mass_form bs (record { 0 = z }) → ⊥
-mass_outside z fits out bs eight h =
-    let written = mass_written z fits bs eight h in
-    both_ways (bounded z) out (ap bounded (sym written.0) ∙ written.1)
+-- a mass outside the bounds has no bytes; within them it has only those that write it
+pub mass_bytes : (z : ℤ) → SFits w64 z → BytesOf mass_model mass_form (record { 0 = z }) (then_some (bounded z) (to_le_bytes w64 (of_z w64 z)))
+mass_bytes z fits = by_bound (bounded z) refl
+  where
+    bs : List ℕ
+    bs = to_le_bytes w64 (of_z w64 z)
 
--- the bytes that write a mass within the bounds are the only ones that stand for it
-pub mass_only : (z : ℤ) → SFits w64 z → bounded z ≡ true → (bs : List ℕ) → Eight bs → signed_little bs ≡ z → OnlyFor mass_model mass_form (record { 0 = z }) bs
-mass_only z fits inside bs eight e = (
-  held_if (bounded (signed_little bs)) (record { 0 = signed_little bs }) (λ b. mass_model.means b ≡ grams z) (ap bounded e ∙ inside) (ap grams e),
-  λ cs eight_cs h.
-      let same : signed_little cs ≡ signed_little bs = (mass_written z fits cs eight_cs h).0 ∙ sym e in
-      little_same cs bs eight_cs eight
-      (sym (of_z-to_z w64 (little cs) (little_below cs eight_cs)) ∙ ap (of_z w64) same ∙ of_z-to_z w64 (little bs) (little_below bs eight)),
-)
+    below : of_z w64 z < 2 ^ 64
+    below = search rules
+
+    writes : signed_little bs ≡ z
+    writes = ap (to_z w64) (written_little (of_z w64 z) below) ∙ to_z-of_z w64 z fits
+
+    by_bound : (t : Bool) → bounded z ≡ t → BytesOf mass_model mass_form (record { 0 = z }) (then_some t bs)
+    by_bound false out = λ cs eight h.
+        let written = mass_written z fits cs eight h in
+        both_ways (bounded z) out (ap bounded (sym written.0) ∙ written.1)
+    by_bound true inside = (
+      held_if (bounded (signed_little bs)) (record { 0 = signed_little bs }) (λ b. mass_model.means b ≡ grams z) (ap bounded writes ∙ inside) (ap grams writes),
+      λ cs eight h.
+          let same : signed_little cs ≡ signed_little bs = (mass_written z fits cs eight h).0 ∙ sym writes in
+          little_same cs bs eight (written_eight (of_z w64 z))
+          (sym (of_z-to_z w64 (little cs) (little_below cs eight)) ∙ ap (of_z w64) same ∙ of_z-to_z w64 (little bs) (little_below bs (written_eight (of_z w64 z)))),
+    )
 
 -- the bytes that write an advance are the only ones that stand for it
-pub totaliser_only : (n : ℕ) (bs : List ℕ) → Eight bs → little bs ≡ taken n → OnlyFor totaliser_model totaliser_form (record { 0 = n }) bs
-totaliser_only n bs eight e =
+pub advance_bytes : (n x : ℕ) → x ≡ taken n → OnlyFor totaliser_model totaliser_form (record { 0 = n }) (to_le_bytes w64 x)
+advance_bytes n x is =
+    let bs = to_le_bytes w64 x in
     let means : Totaliser → Type 0 = λ b. totaliser_model.means b ≡ totaliser_model.means (record { 0 = n }) in
-    let below : little bs < modulus = rw e (taken_below n) in (
-      held_if (ltb (little bs) modulus) (record { 0 = little bs }) means (lt-ltb (little bs) modulus below) (residue_path (ap (λ n. n % modulus) (taken_small (little bs) below ∙ e))),
-      λ cs eight_cs h.
+    let below : x < modulus = rw is (taken_below n) in
+    let e : little bs ≡ taken n = written_little x (omega arith) ∙ is in
+    let small : little bs < modulus = rw e (taken_below n) in (
+      held_if (ltb (little bs) modulus) (record { 0 = little bs }) means (lt-ltb (little bs) modulus small) (residue_path (ap (λ n. n % modulus) (taken_small (little bs) small ∙ e))),
+      λ cs eight h.
           let held = held_both (ltb (little cs) modulus) (record { 0 = little cs }) means h in
-          let small : little cs < modulus = ltb-true (little cs) modulus held.0 in
-          little_same cs bs eight_cs eight
-          (sym (taken_small (little cs) small) ∙ sym (advance_taken (little cs)) ∙ ap (λ x. x.0) held.1 ∙ advance_taken n ∙ sym e),
+          let small_c : little cs < modulus = ltb-true (little cs) modulus held.0 in
+          little_same cs bs eight (written_eight x)
+          (sym (taken_small (little cs) small_c) ∙ sym (advance_taken (little cs)) ∙ ap (λ x. x.0) held.1 ∙ advance_taken n ∙ sym e),
     )

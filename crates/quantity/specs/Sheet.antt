@@ -6,7 +6,7 @@
 -- BytesOf m f a r    r is the one list of eight bytes that stands for the amount a, or none where no list does
 -- mass_form          masses: code 1, a signed number within 10^12 either way
 -- totaliser_form     totalisers: code 2, an unsigned number up to 999,999
-use Rattle.std.specs.Prelude.{◌≡◌, ℕ, cond, List, Some, None, Option, MatchOption, nat_lt}
+use Rattle.std.specs.Prelude.{◌≡◌, ℕ, if◌then◌else◌, List, Some, None, Option, MatchOption, nat_lt}
 use Rattle.quantity.specs.declared.mass.Mass.{Mass}
 use Rattle.quantity.specs.declared.totaliser.Totaliser.{Totaliser}
 use Rattle.quantity.specs.Bytes.{Eight, little, signed_little}
@@ -30,11 +30,11 @@ BytesOf m f a r = MatchOption r ((bs : List ℕ) → Eight bs → StandFor m f b
 abbrev pub mass_form : SheetForm Mass
 mass_form = record {
   code = 1;
-  holds = λ bs. cond (bounded (signed_little bs)) (Some (record { 0 = signed_little bs })) None;
+  holds = λ bs. if bounded (signed_little bs) then Some (record { 0 = signed_little bs }) else None;
 }
 
 abbrev pub totaliser_form : SheetForm Totaliser
 totaliser_form = record {
   code = 2;
-  holds = λ bs. cond (nat_lt (little bs) modulus) (Some (record { 0 = little bs })) None;
+  holds = λ bs. if nat_lt (little bs) modulus then Some (record { 0 = little bs }) else None;
 }

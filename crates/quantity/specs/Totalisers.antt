@@ -6,7 +6,7 @@
 -- advance_of n     the element of that group that the number n means
 -- totaliser_model  what a totaliser means
 -- RollsOver n k    a counter that stands at n passes 999,999 when it moves on by k
-use Rattle.std.specs.Prelude.{ℕ, ◌+◌, ◌≤◌, cond, nat_lt}
+use Rattle.std.specs.Prelude.{ℕ, ◌+◌, ◌≤◌, if◌then◌else◌, nat_lt}
 use Rattle.std.proofs.Common.{lit<}
 use Rattle.quantity.specs.declared.totaliser.Totaliser.{Totaliser}
 use Rattle.quantity.specs.Group.{Group}
@@ -17,7 +17,7 @@ abbrev pub modulus : ℕ
 modulus = 1000000
 
 abbrev pub taken : ℕ → ℕ
-taken n = cond (nat_lt n modulus) n 0
+taken n = if nat_lt n modulus then n else 0
 
 abbrev pub advances : Group
 advances = modulo modulus (lit< tt)

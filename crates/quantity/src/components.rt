@@ -8,7 +8,7 @@ use crate::mass::Mass;
 use std::fmt;
 
 /// The masses of four components, summed one by one.
-#[derive(Clone, Copy)]
+#[derive(Clone, Copy, PartialEq, Eq, Debug)]
 pub struct Components {
     pub first: Mass,
     pub second: Mass,
@@ -16,49 +16,69 @@ pub struct Components {
     pub fourth: Mass,
 }
 
+impl Components {
+    // What `f` makes of each mass.
+    fn map<F: Fn(Mass) -> Mass>(self, f: F) -> Components
+        requires { F.IsAlwaysCallable f }
+        ensures first { F.post f self.first result.first }
+        ensures second { F.post f self.second result.second }
+        ensures third { F.post f self.third result.third }
+        ensures fourth { F.post f self.fourth result.fourth }
+    {
+        Components {
+            first: f(self.first),
+            second: f(self.second),
+            third: f(self.third),
+            fourth: f(self.fourth),
+        }
+    }
+
+    // What `f` makes of each mass of one and the same mass of the other.
+    fn zip_with<F: Fn(Mass, Mass) -> Mass>(self, other: Components, f: F) -> Components
+        requires { F.IsAlwaysCallable f }
+        ensures first { F.post f self.first other.first result.first }
+        ensures second { F.post f self.second other.second result.second }
+        ensures third { F.post f self.third other.third result.third }
+        ensures fourth { F.post f self.fourth other.fourth result.fourth }
+    {
+        Components {
+            first: f(self.first, other.first),
+            second: f(self.second, other.second),
+            third: f(self.third, other.third),
+            fourth: f(self.fourth, other.fourth),
+        }
+    }
+}
+
 impl Quantity for Components {
     ghost model = { components_model };
 
     fn zero() -> Components {
+        let none = Mass::zero();
         Components {
-            first: Mass::zero(),
-            second: Mass::zero(),
-            third: Mass::zero(),
-            fourth: Mass::zero(),
+            first: none,
+            second: none,
+            third: none,
+            fourth: none,
         }
     }
 
     fn plus(self, other: Components) -> Components {
-        Components {
-            first: self.first.plus(other.first),
-            second: self.second.plus(other.second),
-            third: self.third.plus(other.third),
-            fourth: self.fourth.plus(other.fourth),
-        }
+        self.zip_with(other, Mass::plus)
     }
 
     fn negative(self) -> Components {
-        Components {
-            first: self.first.negative(),
-            second: self.second.negative(),
-            third: self.third.negative(),
-            fourth: self.fourth.negative(),
-        }
+        self.map(Mass::negative)
     }
 
     fn same(self, other: Components) -> bool {
-        self.first.same(other.first)
-            && self.second.same(other.second)
-            && self.third.same(other.third)
-            && self.fourth.same(other.fourth)
+        self == other
     }
 
     fn nonzero() -> Components {
         Components {
             first: Mass::nonzero(),
-            second: Mass::zero(),
-            third: Mass::zero(),
-            fourth: Mass::zero(),
+            ..Components::zero()
         }
     }
 }
@@ -68,10 +88,10 @@ impl fmt::Display for Components {
     ghost output = { λ c. Some (signed_decimal c.first.0 ++ (codes " " ++ (signed_decimal c.second.0 ++ (codes " " ++ (signed_decimal c.third.0 ++ (codes " " ++ signed_decimal c.fourth.0)))))) };
 
     fn fmt<W: fmt::Write>(&self, f: &mut fmt::Formatter<W>) -> fmt::Result {
-        let first = self.first.0;
-        let second = self.second.0;
-        let third = self.third.0;
-        let fourth = self.fourth.0;
-        write!(f, "{first} {second} {third} {fourth}")
+        write!(
+            f,
+            "{} {} {} {}",
+            self.first, self.second, self.third, self.fourth
+        )
     }
 }

@@ -5,7 +5,7 @@
 //! of a group alone, so it serves all three, and any other type that keeps the laws.
 #![tactic(auto)]
 
-ghost use Rattle.std.specs.Prelude.{◌≡◌, Decides, ◌≢◌};
+ghost use Rattle.std.specs.Prelude.{◌≡◌, IsTrue, ◌↔◌, ◌≢◌};
 ghost use Rattle.quantity.specs.Model.{Model};
 
 pub mod components;
@@ -37,7 +37,7 @@ pub trait Quantity: Copy {
 
     /// Whether two amounts mean the same element.
     fn same(self, other: Self) -> bool
-        ensures { Decides result (model.means self ≡ model.means other) };
+        ensures { IsTrue result ↔ (model.means self ≡ model.means other) };
 
     /// An amount that differs from zero.
     fn nonzero() -> Self

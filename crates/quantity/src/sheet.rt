@@ -42,48 +42,6 @@ const MASS_CODE: u8 = 1;
 /// The code of totalisers.
 const TOTALISER_CODE: u8 = 2;
 
-// The library's conversions, in the words of specs/Bytes.
-fn signed_number(bytes: [u8; 8]) -> i64
-    ensures { result ≡ signed_little bytes }
-{
-    i64::from_le_bytes(bytes)
-}
-
-fn number(bytes: [u8; 8]) -> u64
-    ensures { result ≡ little bytes }
-{
-    u64::from_le_bytes(bytes)
-}
-
-fn signed_bytes(number: i64) -> [u8; 8]
-    ensures value { signed_little result ≡ number }
-    ensures eight { Eight result }
-{
-    number.to_le_bytes()
-}
-
-fn bytes_of(number: u64) -> [u8; 8]
-    ensures value { little result ≡ number }
-    ensures eight { Eight result }
-{
-    number.to_le_bytes()
-}
-
-// The bytes of a mass within the bounds.
-fn mass_bytes(amount: Mass) -> [u8; 8]
-    requires { bounded amount.0 ≡ true }
-    ensures { OnlyFor mass_model mass_form amount result }
-{
-    signed_bytes(amount.0)
-}
-
-// The bytes of the advance that the number is taken as.
-fn advance_bytes(amount: Totaliser) -> [u8; 8]
-    ensures { OnlyFor totaliser_model totaliser_form amount result }
-{
-    bytes_of(u64::from(amount.advance()))
-}
-
 impl SheetQuantity for Mass {
     ghost form = { mass_form };
 
@@ -92,20 +50,12 @@ impl SheetQuantity for Mass {
     }
 
     fn from_bytes(bytes: [u8; 8]) -> Option<Mass> {
-        let amount = Mass(signed_number(bytes));
-        if amount.is_bounded() {
-            Some(amount)
-        } else {
-            None
-        }
+        let amount = Mass(i64::from_le_bytes(bytes));
+        amount.is_bounded().then_some(amount)
     }
 
     fn to_bytes(self) -> Option<[u8; 8]> {
-        if self.is_bounded() {
-            Some(mass_bytes(self))
-        } else {
-            None
-        }
+        self.is_bounded().then_some(self.0.to_le_bytes())
     }
 }
 
@@ -117,15 +67,11 @@ impl SheetQuantity for Totaliser {
     }
 
     fn from_bytes(bytes: [u8; 8]) -> Option<Totaliser> {
-        let advance = number(bytes);
-        if advance < u64::from(MODULUS) {
-            Some(Totaliser(advance as u32))
-        } else {
-            None
-        }
+        let advance = u32::try_from(u64::from_le_bytes(bytes)).ok()?;
+        (advance < MODULUS).then_some(Totaliser(advance))
     }
 
     fn to_bytes(self) -> Option<[u8; 8]> {
-        Some(advance_bytes(self))
+        Some(u64::from(self.advance()).to_le_bytes())
     }
 }

@@ -1,5 +1,5 @@
 //! Totalisers: advances of a six-digit roll-over counter.
-ghost use Rattle.std.specs.Prelude.{◌≡◌, ◌+◌, ◌-◌, ◌%◌, ◌<◌, Some, decimal, Decides, ◌≢◌};
+ghost use Rattle.std.specs.Prelude.{◌≡◌, ◌+◌, ◌-◌, ◌%◌, Some, decimal, IsTrue, ◌↔◌};
 ghost use Rattle.quantity.specs.Totalisers.{modulus, taken, advances, advance_of, totaliser_model, RollsOver};
 
 use crate::Quantity;
@@ -12,7 +12,7 @@ pub const MODULUS: u32 = 1_000_000;
 ///
 /// It is a plain number, so that tables can hold it: a number above 999,999 is taken as the advance 0 wherever it
 /// stands. There is no `==`, which would tell such a number from 0; use [`Quantity::same`].
-#[derive(Clone, Copy)]
+#[derive(Clone, Copy, Debug)]
 pub struct Totaliser(pub u32);
 
 impl Totaliser {
@@ -25,39 +25,10 @@ impl Totaliser {
 
     /// Whether a counter that stands here passes 999,999 when it moves on by `more`.
     pub fn rolls_over(self, more: Totaliser) -> bool
-        ensures { Decides result (RollsOver self more) }
+        ensures { IsTrue result ↔ RollsOver self more }
     {
         self.advance() + more.advance() >= MODULUS
     }
-}
-
-// The operations modulo 1,000,000, each with the value of its result and with what that means.
-fn sum_modulo(a: Totaliser, b: Totaliser) -> Totaliser
-    ensures means { advance_of result.0 ≡ advances.plus (advance_of a.0) (advance_of b.0) }
-    ensures value { result.0 ≡ (taken a.0 + taken b.0) % modulus }
-{
-    Totaliser((a.advance() + b.advance()) % MODULUS)
-}
-
-fn negative_modulo(a: Totaliser) -> Totaliser
-    ensures means { advance_of result.0 ≡ advances.minus (advance_of a.0) }
-    ensures value { result.0 ≡ (modulus - taken a.0) % modulus }
-{
-    Totaliser((MODULUS - a.advance()) % MODULUS)
-}
-
-fn same_advance(a: Totaliser, b: Totaliser) -> bool
-    ensures { Decides result (advance_of a.0 ≡ advance_of b.0) }
-{
-    a.advance() == b.advance()
-}
-
-fn some_advance(steps: u32) -> Totaliser
-    requires some { 0 < steps }
-    requires below { steps < modulus }
-    ensures { advance_of result.0 ≢ advances.zero }
-{
-    Totaliser(steps)
 }
 
 impl Quantity for Totaliser {
@@ -75,7 +46,7 @@ impl Quantity for Totaliser {
         ensures means { advance_of result.0 ≡ advances.plus (advance_of self.0) (advance_of other.0) }
         ensures value { result.0 ≡ (taken self.0 + taken other.0) % modulus }
     {
-        sum_modulo(self, other)
+        Totaliser((self.advance() + other.advance()) % MODULUS)
     }
 
     /// What is missing to 1,000,000; of 0 it is 0.
@@ -83,15 +54,15 @@ impl Quantity for Totaliser {
         ensures means { advance_of result.0 ≡ advances.minus (advance_of self.0) }
         ensures value { result.0 ≡ (modulus - taken self.0) % modulus }
     {
-        negative_modulo(self)
+        Totaliser((MODULUS - self.advance()) % MODULUS)
     }
 
     fn same(self, other: Totaliser) -> bool {
-        same_advance(self, other)
+        self.advance() == other.advance()
     }
 
     fn nonzero() -> Totaliser {
-        some_advance(1)
+        Totaliser(1)
     }
 }
 
@@ -100,7 +71,6 @@ impl fmt::Display for Totaliser {
     ghost output = { λ t. Some (decimal (taken t.0)) };
 
     fn fmt<W: fmt::Write>(&self, f: &mut fmt::Formatter<W>) -> fmt::Result {
-        let advance = self.advance();
-        write!(f, "{advance}")
+        write!(f, "{}", self.advance())
     }
 }
