@@ -1,5 +1,5 @@
 -- Residues of whole numbers, of 64-bit numbers and of six-digit numbers. Assumes nothing.
-use Rattle.std.proofs.Common.{◌≡◌, ℕ, ◌+◌, ◌-◌, ◌*◌, ◌%◌, ◌^◌, ◌<◌, ◌≤◌, eqb, ltb, ℤ, int_eq, pos, negsuc, ◌+ℤ◌, nat_abs, Decides, sym, refl, ap, ◌∙◌, ap₂, mod-lt, mod-eq_of_lt, add-mul, mul-le-mul_left, arith, lit<, w64, SFits, to_z, of_z}
+use Rattle.std.proofs.Common.{◌≡◌, ◌≢◌, ℕ, ◌+◌, ◌-◌, ◌*◌, ◌%◌, ◌^◌, ◌<◌, ◌≤◌, eqb, ltb, ℤ, int_eq, pos, negsuc, ◌+ℤ◌, nat_abs, Decides, sym, refl, ap, ◌∙◌, ap₂, mod-lt, mod-eq_of_lt, add-mul, mul-le-mul_left, arith, lit<, w64, SFits, to_z, of_z}
 use native.Mathlib.Nat.{mod-mod, add-mod}
 use mir.Facts.{sfits_to_z}
 use borrow.Author.Differences.{up, down}
@@ -71,9 +71,9 @@ module _ (a : ℤ) (fits : SFits w64 a) where
     pub grams_test : Decides (int_eq a b) (grams a ≡ grams b)
     grams_test = Decides-like _ (ap grams) grams_same (Decides-int_eq a b)
 
--- a 64-bit number other than 0 means no count of zero
-pub grams_some : (a : ℤ) → SFits w64 a → (a ≡ pos 0 → ⊥) → grams a ≡ counts.zero → ⊥
-grams_some a fits some e = some (grams_same a fits (pos 0) (omega (arith, ints)) e)
+-- one gram is not zero
+pub one_gram : grams (pos 1) ≢ counts.zero
+one_gram e = absurd (omega (arith, ap (λ x. x.0) e))
 
 -- six digits are taken as they stand
 pub taken_small : (n : ℕ) → n < modulus → taken n ≡ n
@@ -102,8 +102,6 @@ advance_minus a x p =
 pub advance_test : (a b x y : ℕ) → x ≡ taken a → y ≡ taken b → Decides (eqb x y) (advance_of a ≡ advance_of b)
 advance_test a b x y p q = residue_test (advance_of a) (advance_of b) x y (p ∙ sym (advance_taken a)) (q ∙ sym (advance_taken b))
 
--- a number from 1 to 999,999 means no advance of zero
-pub advance_some : (n : ℕ) → 0 < n → n < modulus → advance_of n ≡ advances.zero → ⊥
-advance_some n some below e =
-    let is : n ≡ 0 = sym (taken_small n below) ∙ sym (advance_taken n) ∙ ap (λ x. x.0) e in
-    omega arith
+-- one step is not zero
+pub one_step : advance_of 1 ≢ advances.zero
+one_step e = absurd (omega (arith, ap (λ x. x.0) e))

@@ -1,10 +1,11 @@
 -- What eight bytes hold. Assumes nothing.
-use Rattle.std.proofs.Common.{◌≡◌, ℕ, ◌%◌, ◌^◌, ◌<◌, Bool, true, false, cond, ltb, List, ℤ, Some, None, sym, refl, ap, ◌∙◌, rules, arith, w64, SFits, to_z, of_z, MatchOption}
+use Rattle.std.proofs.Common.{◌≡◌, ℕ, ◌%◌, ◌^◌, ◌<◌, Bool, true, false, cond, ltb, List, ℤ, Some, None, sym, refl, ap, ◌∙◌, rules, arith, w64, SFits, to_z, of_z, MatchOption, Option, subst}
 use Rattle.std.specs.Bool.{then_some}
 use Rattle.std.specs.Int.{to_le_bytes}
 use mir.Facts.{sfits_to_z}
 use Rattle.std.proofs.lemmas.Bool.{lt-ltb, ltb-true, both_ways}
 use Rattle.std.proofs.lemmas.Int.{of_z-to_z, to_z-of_z}
+use Rattle.quantity.specs.declared.mass.Mass.{Mass}
 use Rattle.quantity.specs.declared.totaliser.Totaliser.{Totaliser}
 use Rattle.quantity.specs.Bytes.{Eight, little, signed_little}
 use Rattle.quantity.specs.Masses.{grams, mass_model, bounded}
@@ -30,9 +31,12 @@ mass_written z fits bs eight h =
     (grams_same (signed_little bs) bits z fits held.1, held.0)
 
 -- a mass outside the bounds has no bytes; within them it has only those that write it
-pub mass_bytes : (z : ℤ) → SFits w64 z → BytesOf mass_model mass_form (record { 0 = z }) (then_some (bounded z) (to_le_bytes w64 (of_z w64 z)))
-mass_bytes z fits = by_bound (bounded z) refl
+pub mass_bytes : (a : Mass) (r : Option (List ℕ)) → SFits w64 a.0 → r ≡ then_some (bounded a.0) (to_le_bytes w64 (of_z w64 a.0)) → BytesOf mass_model mass_form a r
+mass_bytes a r fits is = subst (BytesOf mass_model mass_form a) (sym is) (by_bound (bounded z) refl)
   where
+    z : ℤ
+    z = a.0
+
     bs : List ℕ
     bs = to_le_bytes w64 (of_z w64 z)
 
@@ -55,17 +59,19 @@ mass_bytes z fits = by_bound (bounded z) refl
     )
 
 -- the bytes that write an advance are the only ones that stand for it
-pub advance_bytes : (n x : ℕ) → x ≡ taken n → OnlyFor totaliser_model totaliser_form (record { 0 = n }) (to_le_bytes w64 x)
-advance_bytes n x is =
-    let bs = to_le_bytes w64 x in
-    let means : Totaliser → Type 0 = λ b. totaliser_model.means b ≡ totaliser_model.means (record { 0 = n }) in
-    let below : x < modulus = rw is (taken_below n) in
-    let e : little bs ≡ taken n = written_little x (omega arith) ∙ is in
-    let small : little bs < modulus = rw e (taken_below n) in (
+pub advance_bytes : (a : Totaliser) (r : List ℕ) → r ≡ to_le_bytes w64 (taken a.0) → OnlyFor totaliser_model totaliser_form a r
+advance_bytes a r is =
+    let n = a.0 in
+    let bs = to_le_bytes w64 (taken n) in
+    let means : Totaliser → Type 0 = λ b. totaliser_model.means b ≡ totaliser_model.means a in
+    let below = taken_below n in
+    let e : little bs ≡ taken n = written_little (taken n) (omega arith) in
+    let small : little bs < modulus = rw e below in
+    subst (OnlyFor totaliser_model totaliser_form a) (sym is) (
       held_if (ltb (little bs) modulus) (record { 0 = little bs }) means (lt-ltb (little bs) modulus small) (residue_path (ap (λ n. n % modulus) (taken_small (little bs) small ∙ e))),
       λ cs eight h.
           let held = held_both (ltb (little cs) modulus) (record { 0 = little cs }) means h in
           let small_c : little cs < modulus = ltb-true (little cs) modulus held.0 in
-          little_same cs bs eight (written_eight x)
+          little_same cs bs eight (written_eight (taken n))
           (sym (taken_small (little cs) small_c) ∙ sym (advance_taken (little cs)) ∙ ap (λ x. x.0) held.1 ∙ advance_taken n ∙ sym e),
     )

@@ -71,6 +71,7 @@ impl Quantity for Components {
         self.map(Mass::negative)
     }
 
+    #[tactic(auto, using(crate::proofs::Residues::grams_test))]
     fn same(self, other: Components) -> bool {
         self == other
     }

@@ -29,18 +29,22 @@ impl Quantity for Mass {
         Mass(0)
     }
 
+    #[tactic(auto, using(crate::proofs::Residues::grams_plus))]
     fn plus(self, other: Mass) -> Mass {
         Mass(self.0.wrapping_add(other.0))
     }
 
+    #[tactic(auto, using(crate::proofs::Residues::grams_minus))]
     fn negative(self) -> Mass {
         Mass(self.0.wrapping_neg())
     }
 
+    #[tactic(auto, using(crate::proofs::Residues::grams_test))]
     fn same(self, other: Mass) -> bool {
         self == other
     }
 
+    #[tactic(auto, using(crate::proofs::Residues::one_gram))]
     fn nonzero() -> Mass {
         Mass(1)
     }

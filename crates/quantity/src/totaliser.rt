@@ -42,6 +42,7 @@ impl Quantity for Totaliser {
     }
 
     /// The remainder of the plain sum by 1,000,000.
+    #[tactic(auto, using(crate::proofs::Residues::advance_plus))]
     fn plus(self, other: Totaliser) -> Totaliser
         ensures means { advance_of result.0 ≡ advances.plus (advance_of self.0) (advance_of other.0) }
         ensures value { result.0 ≡ (taken self.0 + taken other.0) % modulus }
@@ -50,6 +51,7 @@ impl Quantity for Totaliser {
     }
 
     /// What is missing to 1,000,000; of 0 it is 0.
+    #[tactic(auto, using(crate::proofs::Residues::advance_minus))]
     fn negative(self) -> Totaliser
         ensures means { advance_of result.0 ≡ advances.minus (advance_of self.0) }
         ensures value { result.0 ≡ (modulus - taken self.0) % modulus }
@@ -57,10 +59,12 @@ impl Quantity for Totaliser {
         Totaliser((MODULUS - self.advance()) % MODULUS)
     }
 
+    #[tactic(auto, using(crate::proofs::Residues::advance_test))]
     fn same(self, other: Totaliser) -> bool {
         self.advance() == other.advance()
     }
 
+    #[tactic(auto, using(crate::proofs::Residues::one_step))]
     fn nonzero() -> Totaliser {
         Totaliser(1)
     }
