@@ -6,15 +6,15 @@ ghost use Rattle.flows.specs.Classes.{byte};
 #[derive(Clone, Copy, PartialEq, Eq, Debug)]
 pub enum Class {
     /// The number is not in use.
-    OutOfUse,
+    OutOfUse = 0,
     /// Unread, and on no closed path of unread streams: the balances force its amount.
-    Observable,
+    Observable = 1,
     /// Unread, and on a closed path of unread streams: the balances leave its amount open.
-    Unobservable,
+    Unobservable = 2,
     /// Read, with its ends in different parts: the other readings force its amount.
-    Redundant,
+    Redundant = 3,
     /// Read, with its ends in one part: only its own meter tells its amount.
-    JustMeasured,
+    JustMeasured = 4,
 }
 
 impl Class {
@@ -22,12 +22,6 @@ impl Class {
     pub fn byte(self) -> u8
         ensures { result ≡ byte self }
     {
-        match self {
-            Class::OutOfUse => 0,
-            Class::Observable => 1,
-            Class::Unobservable => 2,
-            Class::Redundant => 3,
-            Class::JustMeasured => 4,
-        }
+        self as u8
     }
 }

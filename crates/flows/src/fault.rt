@@ -6,17 +6,17 @@ ghost use Rattle.flows.specs.Refusals.{number};
 #[derive(Clone, Copy, PartialEq, Eq, Debug)]
 pub enum QuestionFault {
     /// The stream number is outside 1 to 1,024.
-    NumberOutside,
+    NumberOutside = 1,
     /// A table that was handed in is too short.
-    TableTooShort,
+    TableTooShort = 3,
     /// The stream number is not in use.
-    NotInUse,
+    NotInUse = 22,
     /// The plant is inconsistent: no balanced flow agrees with the readings.
-    Inconsistent,
+    Inconsistent = 26,
     /// The stream is observable or redundant, so that it has no rival flows.
-    Determined,
+    Determined = 27,
     /// The plant is consistent, so that there is nothing in dispute.
-    Consistent,
+    Consistent = 28,
 }
 
 impl QuestionFault {
@@ -24,13 +24,6 @@ impl QuestionFault {
     pub fn number(self) -> u8
         ensures { result ≡ number self }
     {
-        match self {
-            QuestionFault::NumberOutside => 1,
-            QuestionFault::TableTooShort => 3,
-            QuestionFault::NotInUse => 22,
-            QuestionFault::Inconsistent => 26,
-            QuestionFault::Determined => 27,
-            QuestionFault::Consistent => 28,
-        }
+        self as u8
     }
 }
