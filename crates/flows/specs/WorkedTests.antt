@@ -8,14 +8,13 @@
 -- none_fits fits        no refusal fits
 -- smallest fits f       f fits, and none with a smaller number does
 -- within_test u o       both ends lie within the units 0 to u
--- same_mark a b         two marks are one
 -- first_mark marks      the lowest unit that is marked
 --
 -- These take the model m of the amounts, a comparison s of what they mean, and the row:
 -- top                   a number above all streams in use
 -- is_consistent         each part without place 0 has net zero
 -- has_class c n         stream n has class c
--- shape                 the row is a plant with at most 256 units, and its lists are of one length
+-- shape                 the row is a plant with at most 256 units and 1,024 numbers
 -- survey_fits, value_fits, rival_fits, dispute_fits   which refusals fit where the tables are long enough
 -- counted v b           how often the byte b stands among the classes that the row shows
 -- reads o x             a reading has the amount x
@@ -28,6 +27,7 @@
 -- passes w              the row shows what the definitions give, for a worked plant of either quantity
 use Rattle.std.specs.Prelude.{ℕ, zero, suc, ◌^◌, Bool, true, false, not, ◌&&◌, ◌||◌, List, [], ◌∷◌, map, length, Some, None, Ok, Err, Option, Result, ◌==◌, nat_eq, nat_le, nat_lt, slice_index_or}
 use Rattle.std.proofs.Common.{lit<}
+use Rattle.std.proofs.lemmas.Bool.{agree_below}
 use Rattle.quantity.specs.Masses.{mass_model}
 use Rattle.quantity.specs.Model.{Model}
 use Rattle.quantity.specs.Totalisers.{modulus, totaliser_model}
@@ -50,11 +50,11 @@ use Rattle.flows.specs.Flows.{total_below, read_set, readings, net_below}
 use Rattle.flows.specs.Plants.{last_unit, last_number}
 use Rattle.flows.specs.Questions.{how_many}
 use Rattle.flows.specs.Refusals.{number}
-use Rattle.flows.specs.Worked.{at_number, plan, shown_readings}
+use Rattle.flows.specs.Worked.{at_number, ends, value_at, rival_at, plan, shown_readings}
 
 abbrev pub all_below : (ℕ → Bool) → ℕ → Bool
 all_below p zero = true
-all_below p (suc n) = all_below p n && p n
+all_below p (suc n) = p n && all_below p n
 
 abbrev pub every : (QuestionFault → Bool) → Bool
 every p = p NumberOutside && (p TableTooShort && (p NotInUse && (p Inconsistent && (p Determined && p Consistent))))
@@ -68,10 +68,6 @@ smallest fits f = fits f && every (λ g. not (fits g) || nat_le (number f) (numb
 abbrev pub within_test : ℕ → Option Ends → Bool
 within_test units (Some e) = nat_le e.from units && nat_le e.to units
 within_test units None = true
-
-abbrev pub same_mark : Bool → Bool → Bool
-same_mark true b = b
-same_mark false b = not b
 
 abbrev pub first_mark : List Bool → ℕ
 first_mark [] = 0
@@ -87,7 +83,7 @@ module _ {Q : Type 0} (m : Model Q) (s : Comparison m.group) (row : WorkedPlant 
 
   -- a number above all streams in use
   abbrev pub top : ℕ
-  top = suc (length row.ends)
+  top = suc (length row.streams)
 
   abbrev pub is_consistent : Bool
   is_consistent = consistent m.group s D t top
@@ -96,8 +92,7 @@ module _ {Q : Type 0} (m : Model Q) (s : Comparison m.group) (row : WorkedPlant 
   has_class c n = byte (class D (read_set t) top n) == byte c
 
   abbrev pub shape : Bool
-  shape = nat_le row.units last_unit && (nat_le (length row.ends) last_number && (length row.value == length row.ends && (length row.rival == length row.ends
-      && all_below (λ k. within_test row.units (slice_index_or row.ends k None)) (length row.ends))))
+  shape = nat_le row.units last_unit && (nat_le (length row.streams) last_number && all_below (λ k. within_test row.units (slice_index_or (ends row) k None)) (length row.streams))
 
   abbrev pub survey_fits : QuestionFault → Bool
   survey_fits Inconsistent = not is_consistent
@@ -135,8 +130,8 @@ module _ {Q : Type 0} (m : Model Q) (s : Comparison m.group) (row : WorkedPlant 
   counted v b = how_many (λ k. nat_eq (byte (slice_index_or v.classes k OutOfUse)) b) (length v.classes)
 
   abbrev pub survey_right : Result Survey QuestionFault → Bool
-  survey_right (Ok v) = none_fits survey_fits && (is_consistent && (length v.classes == length row.ends
-      && (all_below (λ k. has_class (slice_index_or v.classes k OutOfUse) (suc k)) (length row.ends)
+  survey_right (Ok v) = none_fits survey_fits && (is_consistent && (length v.classes == length row.streams
+      && (all_below (λ k. has_class (slice_index_or v.classes k OutOfUse) (suc k)) (length row.streams)
       && (v.counts.0 == counted v (byte Observable) && (v.counts.1 == counted v (byte Unobservable) && (v.counts.2 == counted v (byte Redundant) && v.counts.3 == counted v (byte JustMeasured)))))))
   survey_right (Err f) = smallest survey_fits f
 
@@ -159,9 +154,9 @@ module _ {Q : Type 0} (m : Model Q) (s : Comparison m.group) (row : WorkedPlant 
   allows None x = true
 
   abbrev pub flow_right : ℕ → List Q → Bool
-  flow_right n xs = length xs == length row.ends
+  flow_right n xs = length xs == length row.streams
       && (all_below (λ v. s.same (total_below m.group D top (λ k. nat_eq (D.to k) (suc v)) (flow_of xs)) (total_below m.group D top (λ k. nat_eq (D.from k) (suc v)) (flow_of xs))) row.units
-      && all_below (λ k. (suc k == n) || (not (D.used (suc k)) || allows (t (suc k)) (flow_of xs (suc k)))) (length row.ends))
+      && all_below (λ k. (suc k == n) || (not (D.used (suc k)) || allows (t (suc k)) (flow_of xs (suc k)))) (length row.streams))
 
   abbrev pub rival_right : ℕ → Result (Flows Q) QuestionFault → Bool
   rival_right n (Ok f) = none_fits (rival_fits n) && (is_consistent && (flow_right n f.first && (flow_right n f.second && not (s.same (flow_of f.first n) (flow_of f.second n)))))
@@ -170,13 +165,13 @@ module _ {Q : Type 0} (m : Model Q) (s : Comparison m.group) (row : WorkedPlant 
   abbrev pub dispute_right : Result (Dispute Q) QuestionFault → Bool
   dispute_right (Ok d) = none_fits dispute_fits && (nat_lt row.units (length d.marks) && (nat_le (first_mark d.marks) row.units
       && (not (undisputed m.group s D t top (first_mark d.marks)) && (all_undisputed m.group s D t top (first_mark d.marks)
-      && (all_below (λ w. same_mark (slice_index_or d.marks w false) (nat_le w row.units && part D (read_set t) top (first_mark d.marks) w)) (length d.marks)
+      && (agree_below (λ w. slice_index_or d.marks w false) (λ w. nat_le w row.units && part D (read_set t) top (first_mark d.marks) w) (length d.marks)
       && s.same (m.means d.net) (net_below m.group D top (part D (read_set t) top (first_mark d.marks)) (readings m.group t)))))))
   dispute_right (Err f) = smallest dispute_fits f
 
   abbrev pub row_right : Bool
-  row_right = shape && (survey_right row.survey && (all_below (λ k. value_right (suc k) (slice_index_or row.value k (Err NotInUse))) (length row.ends)
-      && (all_below (λ k. rival_right (suc k) (slice_index_or row.rival k (Err NotInUse))) (length row.ends) && dispute_right row.dispute)))
+  row_right = shape && (survey_right row.survey && (all_below (λ k. value_right (suc k) (value_at row k)) (length row.streams)
+      && (all_below (λ k. rival_right (suc k) (rival_at row k)) (length row.streams) && dispute_right row.dispute)))
 
 abbrev pub passes : Worked → Bool
 passes (OfMasses row) = row_right mass_model (compare_residues (2 ^ 64) (lit< tt)) row

@@ -3,9 +3,9 @@
 //! Each plant is a small function; [`worked_plants`] has them in one table. Its contract says that they are the plants of
 //! `specs/Examples.antt`, and of each that what it shows is what the definitions give, where the tables are long enough. It is
 //! proved by computing.
-ghost use Rattle.std.specs.Prelude.{◌≡◌, true};
+ghost use Rattle.std.specs.Prelude.{IsTrue};
 ghost use Rattle.flows.specs.Examples as Examples;
-ghost use Rattle.flows.specs.Worked.{Right, given, WorkedOut};
+ghost use Rattle.flows.specs.Worked.{given, Shows, WorkedOut};
 ghost use Rattle.flows.specs.WorkedTests.{passes};
 
 use crate::class::Class;
@@ -18,24 +18,39 @@ use quantity::totaliser::Totaliser;
 
 /// What survey writes for the numbers 1 to 5, and the counts that it answers: observable, unobservable, redundant, just
 /// measured. All further numbers are out of use.
-#[derive(Clone, Copy)]
+#[derive(Clone, Copy, PartialEq, Eq, Debug)]
 pub struct Survey {
     pub classes: [Class; 5],
     pub counts: (u16, u16, u16, u16),
 }
 
 /// Two flows that rival may write, by their amounts at the numbers 1 to 5; those at numbers out of use do not count.
-#[derive(Drop)]
+#[derive(Clone, Copy, PartialEq, Eq, Debug)]
 pub struct Flows<Q> {
     pub first: [Q; 5],
     pub second: [Q; 5],
 }
 
 /// What dispute marks of the units 0 to 3, and the net amount that it answers. No further unit is marked.
-#[derive(Drop)]
+#[derive(Clone, Copy, PartialEq, Eq, Debug)]
 pub struct Dispute<Q> {
     pub marks: [bool; 4],
     pub net: Q,
+}
+
+/// What a plant shows of one stream number.
+#[derive(Clone, Copy, PartialEq, Eq, Debug)]
+pub struct WorkedStream<Q> {
+    /// The ends of the stream; a number without ends is out of use.
+    pub ends: Option<Ends>,
+    /// The amount that the number has in the source.
+    pub amount: Option<Q>,
+    /// Whether the number is isolated; then it has no reading.
+    pub isolated: bool,
+    /// What value gives for the number.
+    pub value: Result<Option<Q>, QuestionFault>,
+    /// What rival gives for the number.
+    pub rival: Result<Flows<Q>, QuestionFault>,
 }
 
 /// A plant with streams among the numbers 1 to 5, and what each question gives on it where its tables are long enough.
@@ -43,17 +58,11 @@ pub struct Dispute<Q> {
 pub struct WorkedPlant<Q> {
     /// The units are 0 to this.
     pub units: u16,
-    /// The ends of each number; one without ends is out of use.
-    pub ends: [Option<Ends>; 5],
-    /// The amount that each number has in the source.
-    pub amounts: [Option<Q>; 5],
-    /// The numbers that are isolated; they have no reading.
-    pub isolated: [bool; 5],
+    /// What it shows of the numbers 1 to 5.
+    pub streams: [WorkedStream<Q>; 5],
+    /// What survey gives.
     pub survey: Result<Survey, QuestionFault>,
-    /// What value gives for each number.
-    pub value: [Result<Option<Q>, QuestionFault>; 5],
-    /// What rival gives for each number.
-    pub rival: [Result<Flows<Q>, QuestionFault>; 5],
+    /// What dispute gives.
     pub dispute: Result<Dispute<Q>, QuestionFault>,
 }
 
@@ -66,87 +75,95 @@ pub enum Worked {
 
 /// Hands back a plant that passes the test, and so shows what the definitions give on it.
 fn checked(plant: Worked) -> Worked
-    requires { passes plant ≡ true }
-    ensures { (given result ≡ given plant) × Right result }
+    requires { IsTrue (passes plant) }
+    ensures { Shows (given plant) result }
 {
     plant
+}
+
+/// What a plant shows of a stream number in use: the ends of the stream, the amount in the source, and what value and rival
+/// give.
+macro_rules! stream {
+    ($from:literal -> $to:literal, $amount:expr, $value:expr, $rival:expr) => {
+        WorkedStream {
+            ends: Some(Ends {
+                from: $from,
+                to: $to,
+            }),
+            amount: $amount,
+            isolated: false,
+            value: $value,
+            rival: $rival,
+        }
+    };
+}
+
+/// What a plant shows of a number out of use.
+macro_rules! out_of_use {
+    () => {
+        WorkedStream {
+            ends: None,
+            amount: None,
+            isolated: false,
+            value: Err(NotInUse),
+            rival: Err(NotInUse),
+        }
+    };
+}
+
+/// Two flows of one quantity.
+macro_rules! flows {
+    ($quantity:path, [$($first:expr),*], [$($second:expr),*]) => {
+        Flows {
+            first: [$($quantity($first)),*],
+            second: [$($quantity($second)),*],
+        }
+    };
 }
 
 /// Twin. Streams 2 and 3 run side by side, and nobody can know how much goes through which.
 ///
 /// A search for closed paths that ignored every stream back to the unit it came from would call 2 and 3 observable.
 fn twin() -> Worked
-    ensures { (given result ≡ Examples.twin) × Right result }
+    ensures { Shows Examples.twin result }
 {
     checked(Worked::OfMasses(WorkedPlant {
         units: 3,
-        ends: [
-            Some(Ends { from: 0, to: 1 }),
-            Some(Ends { from: 1, to: 2 }),
-            Some(Ends { from: 1, to: 2 }),
-            Some(Ends { from: 2, to: 3 }),
-            Some(Ends { from: 3, to: 0 }),
+        streams: [
+            stream!(0 -> 1, Some(Mass(100)), Ok(Some(Mass(100))), Err(Determined)),
+            stream!(
+                1 -> 2, None, Ok(None),
+                Ok(flows!(Mass, [100, 0, 100, 100, 100], [100, 100, 0, 100, 100]))
+            ),
+            stream!(
+                1 -> 2, None, Ok(None),
+                Ok(flows!(Mass, [100, 100, 0, 100, 100], [100, 30, 70, 100, 100]))
+            ),
+            stream!(2 -> 3, None, Ok(Some(Mass(100))), Err(Determined)),
+            stream!(3 -> 0, Some(Mass(100)), Ok(Some(Mass(100))), Err(Determined)),
         ],
-        amounts: [Some(Mass(100)), None, None, None, Some(Mass(100))],
-        isolated: [false, false, false, false, false],
         survey: Ok(Survey {
             classes: [Redundant, Unobservable, Unobservable, Observable, Redundant],
             counts: (1, 2, 2, 0),
         }),
-        value: [
-            Ok(Some(Mass(100))),
-            Ok(None),
-            Ok(None),
-            Ok(Some(Mass(100))),
-            Ok(Some(Mass(100))),
-        ],
-        rival: [
-            Err(Determined),
-            Ok(Flows {
-                first: [Mass(100), Mass(0), Mass(100), Mass(100), Mass(100)],
-                second: [Mass(100), Mass(100), Mass(0), Mass(100), Mass(100)],
-            }),
-            Ok(Flows {
-                first: [Mass(100), Mass(100), Mass(0), Mass(100), Mass(100)],
-                second: [Mass(100), Mass(30), Mass(70), Mass(100), Mass(100)],
-            }),
-            Err(Determined),
-            Err(Determined),
-        ],
         dispute: Err(Consistent),
     }))
 }
 
 /// Twin with stream 5 reading 90: units 1, 2 and 3 take in 100 and give off 90.
 fn twin_in_dispute() -> Worked
-    ensures { (given result ≡ Examples.twin_in_dispute) × Right result }
+    ensures { Shows Examples.twin_in_dispute result }
 {
     checked(Worked::OfMasses(WorkedPlant {
         units: 3,
-        ends: [
-            Some(Ends { from: 0, to: 1 }),
-            Some(Ends { from: 1, to: 2 }),
-            Some(Ends { from: 1, to: 2 }),
-            Some(Ends { from: 2, to: 3 }),
-            Some(Ends { from: 3, to: 0 }),
+        streams: [
+            stream!(0 -> 1, Some(Mass(100)), Err(Inconsistent), Err(Inconsistent)),
+            stream!(1 -> 2, None, Err(Inconsistent), Err(Inconsistent)),
+            stream!(1 -> 2, None, Err(Inconsistent), Err(Inconsistent)),
+            stream!(2 -> 3, None, Err(Inconsistent), Err(Inconsistent)),
+            stream!(3 -> 0, Some(Mass(90)), Err(Inconsistent), Err(Inconsistent)),
         ],
-        amounts: [Some(Mass(100)), None, None, None, Some(Mass(90))],
-        isolated: [false, false, false, false, false],
         survey: Err(Inconsistent),
-        value: [
-            Err(Inconsistent),
-            Err(Inconsistent),
-            Err(Inconsistent),
-            Err(Inconsistent),
-            Err(Inconsistent),
-        ],
-        rival: [
-            Err(Inconsistent),
-            Err(Inconsistent),
-            Err(Inconsistent),
-            Err(Inconsistent),
-            Err(Inconsistent),
-        ],
         dispute: Ok(Dispute {
             marks: [false, true, true, true],
             net: Mass(-10),
@@ -158,19 +175,29 @@ fn twin_in_dispute() -> Worked
 ///
 /// All units are then in one part with unit 0. That this part balances does not make the reading of stream 1 redundant.
 fn twin_with_5_isolated() -> Worked
-    ensures { (given result ≡ Examples.twin_with_5_isolated) × Right result }
+    ensures { Shows Examples.twin_with_5_isolated result }
 {
     checked(Worked::OfMasses(WorkedPlant {
         units: 3,
-        ends: [
-            Some(Ends { from: 0, to: 1 }),
-            Some(Ends { from: 1, to: 2 }),
-            Some(Ends { from: 1, to: 2 }),
-            Some(Ends { from: 2, to: 3 }),
-            Some(Ends { from: 3, to: 0 }),
+        streams: [
+            stream!(
+                0 -> 1, Some(Mass(100)), Ok(Some(Mass(100))),
+                Ok(flows!(Mass, [0, 0, 0, 0, 0], [100, 100, 0, 100, 100]))
+            ),
+            stream!(
+                1 -> 2, None, Ok(None),
+                Ok(flows!(Mass, [100, 0, 100, 100, 100], [100, 100, 0, 100, 100]))
+            ),
+            stream!(
+                1 -> 2, None, Ok(None),
+                Ok(flows!(Mass, [100, 0, 100, 100, 100], [100, 100, 0, 100, 100]))
+            ),
+            stream!(2 -> 3, None, Ok(Some(Mass(100))), Err(Determined)),
+            WorkedStream {
+                isolated: true,
+                ..stream!(3 -> 0, Some(Mass(100)), Ok(Some(Mass(100))), Err(Determined))
+            },
         ],
-        amounts: [Some(Mass(100)), None, None, None, Some(Mass(100))],
-        isolated: [false, false, false, false, true],
         survey: Ok(Survey {
             classes: [
                 JustMeasured,
@@ -181,162 +208,90 @@ fn twin_with_5_isolated() -> Worked
             ],
             counts: (2, 2, 0, 1),
         }),
-        value: [
-            Ok(Some(Mass(100))),
-            Ok(None),
-            Ok(None),
-            Ok(Some(Mass(100))),
-            Ok(Some(Mass(100))),
-        ],
-        rival: [
-            Ok(Flows {
-                first: [Mass(0), Mass(0), Mass(0), Mass(0), Mass(0)],
-                second: [Mass(100), Mass(100), Mass(0), Mass(100), Mass(100)],
-            }),
-            Ok(Flows {
-                first: [Mass(100), Mass(0), Mass(100), Mass(100), Mass(100)],
-                second: [Mass(100), Mass(100), Mass(0), Mass(100), Mass(100)],
-            }),
-            Ok(Flows {
-                first: [Mass(100), Mass(0), Mass(100), Mass(100), Mass(100)],
-                second: [Mass(100), Mass(100), Mass(0), Mass(100), Mass(100)],
-            }),
-            Err(Determined),
-            Err(Determined),
-        ],
         dispute: Err(Consistent),
     }))
 }
 
 /// A stream into a unit that nothing leaves carries nothing.
 fn dead_end() -> Worked
-    ensures { (given result ≡ Examples.dead_end) × Right result }
+    ensures { Shows Examples.dead_end result }
 {
     checked(Worked::OfMasses(WorkedPlant {
         units: 1,
-        ends: [Some(Ends { from: 0, to: 1 }), None, None, None, None],
-        amounts: [None, None, None, None, None],
-        isolated: [false, false, false, false, false],
+        streams: [
+            stream!(0 -> 1, None, Ok(Some(Mass(0))), Err(Determined)),
+            out_of_use!(),
+            out_of_use!(),
+            out_of_use!(),
+            out_of_use!(),
+        ],
         survey: Ok(Survey {
             classes: [Observable, OutOfUse, OutOfUse, OutOfUse, OutOfUse],
             counts: (1, 0, 0, 0),
         }),
-        value: [
-            Ok(Some(Mass(0))),
-            Err(NotInUse),
-            Err(NotInUse),
-            Err(NotInUse),
-            Err(NotInUse),
-        ],
-        rival: [
-            Err(Determined), // stream 1 is observable
-            Err(NotInUse),
-            Err(NotInUse),
-            Err(NotInUse),
-            Err(NotInUse),
-        ],
         dispute: Err(Consistent),
     }))
 }
 
 /// A stream from a unit to itself is a closed path alone.
 fn unread_loop() -> Worked
-    ensures { (given result ≡ Examples.unread_loop) × Right result }
+    ensures { Shows Examples.unread_loop result }
 {
     checked(Worked::OfMasses(WorkedPlant {
         units: 1,
-        ends: [Some(Ends { from: 1, to: 1 }), None, None, None, None],
-        amounts: [None, None, None, None, None],
-        isolated: [false, false, false, false, false],
+        streams: [
+            stream!(1 -> 1, None, Ok(None), Ok(flows!(Mass, [0, 0, 0, 0, 0], [1, 0, 0, 0, 0]))),
+            out_of_use!(),
+            out_of_use!(),
+            out_of_use!(),
+            out_of_use!(),
+        ],
         survey: Ok(Survey {
             classes: [Unobservable, OutOfUse, OutOfUse, OutOfUse, OutOfUse],
             counts: (0, 1, 0, 0),
         }),
-        value: [
-            Ok(None),
-            Err(NotInUse),
-            Err(NotInUse),
-            Err(NotInUse),
-            Err(NotInUse),
-        ],
-        rival: [
-            Ok(Flows {
-                first: [Mass(0), Mass(0), Mass(0), Mass(0), Mass(0)],
-                second: [Mass(1), Mass(0), Mass(0), Mass(0), Mass(0)],
-            }),
-            Err(NotInUse),
-            Err(NotInUse),
-            Err(NotInUse),
-            Err(NotInUse),
-        ],
         dispute: Err(Consistent),
     }))
 }
 
 /// A stream from a unit to itself with a meter: no balance confirms it.
 fn read_loop() -> Worked
-    ensures { (given result ≡ Examples.read_loop) × Right result }
+    ensures { Shows Examples.read_loop result }
 {
     checked(Worked::OfMasses(WorkedPlant {
         units: 1,
-        ends: [Some(Ends { from: 1, to: 1 }), None, None, None, None],
-        amounts: [Some(Mass(5)), None, None, None, None],
-        isolated: [false, false, false, false, false],
+        streams: [
+            stream!(
+                1 -> 1, Some(Mass(5)), Ok(Some(Mass(5))),
+                Ok(flows!(Mass, [0, 0, 0, 0, 0], [5, 0, 0, 0, 0]))
+            ),
+            out_of_use!(),
+            out_of_use!(),
+            out_of_use!(),
+            out_of_use!(),
+        ],
         survey: Ok(Survey {
             classes: [JustMeasured, OutOfUse, OutOfUse, OutOfUse, OutOfUse],
             counts: (0, 0, 0, 1),
         }),
-        value: [
-            Ok(Some(Mass(5))),
-            Err(NotInUse),
-            Err(NotInUse),
-            Err(NotInUse),
-            Err(NotInUse),
-        ],
-        rival: [
-            Ok(Flows {
-                first: [Mass(0), Mass(0), Mass(0), Mass(0), Mass(0)],
-                second: [Mass(5), Mass(0), Mass(0), Mass(0), Mass(0)],
-            }),
-            Err(NotInUse),
-            Err(NotInUse),
-            Err(NotInUse),
-            Err(NotInUse),
-        ],
         dispute: Err(Consistent),
     }))
 }
 
 /// Two units, each with one metered stream to or from unit 0: both parts are in dispute, and dispute takes the lower unit.
 fn two_in_dispute() -> Worked
-    ensures { (given result ≡ Examples.two_in_dispute) × Right result }
+    ensures { Shows Examples.two_in_dispute result }
 {
     checked(Worked::OfMasses(WorkedPlant {
         units: 2,
-        ends: [
-            Some(Ends { from: 0, to: 1 }),
-            Some(Ends { from: 2, to: 0 }),
-            None,
-            None,
-            None,
+        streams: [
+            stream!(0 -> 1, Some(Mass(5)), Err(Inconsistent), Err(Inconsistent)),
+            stream!(2 -> 0, Some(Mass(5)), Err(Inconsistent), Err(Inconsistent)),
+            out_of_use!(),
+            out_of_use!(),
+            out_of_use!(),
         ],
-        amounts: [Some(Mass(5)), Some(Mass(5)), None, None, None],
-        isolated: [false, false, false, false, false],
         survey: Err(Inconsistent),
-        value: [
-            Err(Inconsistent),
-            Err(Inconsistent),
-            Err(NotInUse),
-            Err(NotInUse),
-            Err(NotInUse),
-        ],
-        rival: [
-            Err(Inconsistent),
-            Err(Inconsistent),
-            Err(NotInUse),
-            Err(NotInUse),
-            Err(NotInUse),
-        ],
         dispute: Ok(Dispute {
             marks: [false, true, false, false],
             net: Mass(-5),
@@ -346,153 +301,72 @@ fn two_in_dispute() -> Worked
 
 /// Two counters whose sum rolls over, and an unread stream that carries both amounts away.
 fn rolled_over() -> Worked
-    ensures { (given result ≡ Examples.rolled_over) × Right result }
+    ensures { Shows Examples.rolled_over result }
 {
     checked(Worked::OfTotalisers(WorkedPlant {
         units: 1,
-        ends: [
-            Some(Ends { from: 0, to: 1 }),
-            Some(Ends { from: 0, to: 1 }),
-            Some(Ends { from: 1, to: 0 }),
-            None,
-            None,
+        streams: [
+            stream!(
+                0 -> 1, Some(Totaliser(999_990)), Ok(Some(Totaliser(999_990))),
+                Ok(flows!(Totaliser, [0, 20, 20, 0, 0], [999_990, 20, 10, 0, 0]))
+            ),
+            stream!(
+                0 -> 1, Some(Totaliser(20)), Ok(Some(Totaliser(20))),
+                Ok(flows!(Totaliser, [999_990, 0, 999_990, 0, 0], [999_990, 20, 10, 0, 0]))
+            ),
+            stream!(1 -> 0, None, Ok(Some(Totaliser(10))), Err(Determined)),
+            out_of_use!(),
+            out_of_use!(),
         ],
-        amounts: [
-            Some(Totaliser(999_990)),
-            Some(Totaliser(20)),
-            None,
-            None,
-            None,
-        ],
-        isolated: [false, false, false, false, false],
         survey: Ok(Survey {
             classes: [JustMeasured, JustMeasured, Observable, OutOfUse, OutOfUse],
             counts: (1, 0, 0, 2),
         }),
-        value: [
-            Ok(Some(Totaliser(999_990))),
-            Ok(Some(Totaliser(20))),
-            Ok(Some(Totaliser(10))),
-            Err(NotInUse),
-            Err(NotInUse),
-        ],
-        rival: [
-            Ok(Flows {
-                first: [
-                    Totaliser(0),
-                    Totaliser(20),
-                    Totaliser(20),
-                    Totaliser(0),
-                    Totaliser(0),
-                ],
-                second: [
-                    Totaliser(999_990),
-                    Totaliser(20),
-                    Totaliser(10),
-                    Totaliser(0),
-                    Totaliser(0),
-                ],
-            }),
-            Ok(Flows {
-                first: [
-                    Totaliser(999_990),
-                    Totaliser(0),
-                    Totaliser(999_990),
-                    Totaliser(0),
-                    Totaliser(0),
-                ],
-                second: [
-                    Totaliser(999_990),
-                    Totaliser(20),
-                    Totaliser(10),
-                    Totaliser(0),
-                    Totaliser(0),
-                ],
-            }),
-            Err(Determined),
-            Err(NotInUse),
-            Err(NotInUse),
-        ],
         dispute: Err(Consistent),
     }))
 }
 
 /// A closed path through unit 0 counts as any other: nobody can know how much goes round.
 fn through_unit_0() -> Worked
-    ensures { (given result ≡ Examples.through_unit_0) × Right result }
+    ensures { Shows Examples.through_unit_0 result }
 {
     checked(Worked::OfMasses(WorkedPlant {
         units: 2,
-        ends: [
-            Some(Ends { from: 0, to: 1 }),
-            Some(Ends { from: 1, to: 2 }),
-            Some(Ends { from: 2, to: 0 }),
-            None,
-            None,
+        streams: [
+            stream!(0 -> 1, None, Ok(None), Ok(flows!(Mass, [0, 0, 0, 0, 0], [1, 1, 1, 0, 0]))),
+            stream!(1 -> 2, None, Ok(None), Ok(flows!(Mass, [0, 0, 0, 0, 0], [1, 1, 1, 0, 0]))),
+            stream!(2 -> 0, None, Ok(None), Ok(flows!(Mass, [0, 0, 0, 0, 0], [1, 1, 1, 0, 0]))),
+            out_of_use!(),
+            out_of_use!(),
         ],
-        amounts: [None, None, None, None, None],
-        isolated: [false, false, false, false, false],
         survey: Ok(Survey {
             classes: [Unobservable, Unobservable, Unobservable, OutOfUse, OutOfUse],
             counts: (0, 3, 0, 0),
         }),
-        value: [Ok(None), Ok(None), Ok(None), Err(NotInUse), Err(NotInUse)],
-        rival: [
-            Ok(Flows {
-                first: [Mass(0), Mass(0), Mass(0), Mass(0), Mass(0)],
-                second: [Mass(1), Mass(1), Mass(1), Mass(0), Mass(0)],
-            }),
-            Ok(Flows {
-                first: [Mass(0), Mass(0), Mass(0), Mass(0), Mass(0)],
-                second: [Mass(1), Mass(1), Mass(1), Mass(0), Mass(0)],
-            }),
-            Ok(Flows {
-                first: [Mass(0), Mass(0), Mass(0), Mass(0), Mass(0)],
-                second: [Mass(1), Mass(1), Mass(1), Mass(0), Mass(0)],
-            }),
-            Err(NotInUse),
-            Err(NotInUse),
-        ],
         dispute: Err(Consistent),
     }))
 }
 
 /// A reading inside one part without unit 0: whatever it is, stream 1 can carry the same, so it is just measured.
 fn inside_one_part() -> Worked
-    ensures { (given result ≡ Examples.inside_one_part) × Right result }
+    ensures { Shows Examples.inside_one_part result }
 {
     checked(Worked::OfMasses(WorkedPlant {
         units: 2,
-        ends: [
-            Some(Ends { from: 1, to: 2 }),
-            Some(Ends { from: 2, to: 1 }),
-            None,
-            None,
-            None,
+        streams: [
+            stream!(1 -> 2, None, Ok(Some(Mass(5))), Err(Determined)),
+            stream!(
+                2 -> 1, Some(Mass(5)), Ok(Some(Mass(5))),
+                Ok(flows!(Mass, [0, 0, 0, 0, 0], [5, 5, 0, 0, 0]))
+            ),
+            out_of_use!(),
+            out_of_use!(),
+            out_of_use!(),
         ],
-        amounts: [None, Some(Mass(5)), None, None, None],
-        isolated: [false, false, false, false, false],
         survey: Ok(Survey {
             classes: [Observable, JustMeasured, OutOfUse, OutOfUse, OutOfUse],
             counts: (1, 0, 0, 1),
         }),
-        value: [
-            Ok(Some(Mass(5))),
-            Ok(Some(Mass(5))),
-            Err(NotInUse),
-            Err(NotInUse),
-            Err(NotInUse),
-        ],
-        rival: [
-            Err(Determined),
-            Ok(Flows {
-                first: [Mass(0), Mass(0), Mass(0), Mass(0), Mass(0)],
-                second: [Mass(5), Mass(5), Mass(0), Mass(0), Mass(0)],
-            }),
-            Err(NotInUse),
-            Err(NotInUse),
-            Err(NotInUse),
-        ],
         dispute: Err(Consistent),
     }))
 }
@@ -502,43 +376,30 @@ fn inside_one_part() -> Worked
 ///
 /// Number 1 is out of use, although the source still has a reading of it.
 fn read_across_the_cut() -> Worked
-    ensures { (given result ≡ Examples.read_across_the_cut) × Right result }
+    ensures { Shows Examples.read_across_the_cut result }
 {
     checked(Worked::OfMasses(WorkedPlant {
         units: 2,
-        ends: [
-            None,
-            Some(Ends { from: 0, to: 1 }),
-            Some(Ends { from: 1, to: 2 }),
-            Some(Ends { from: 1, to: 2 }),
-            Some(Ends { from: 2, to: 0 }),
+        streams: [
+            WorkedStream {
+                amount: Some(Mass(7)),
+                ..out_of_use!()
+            },
+            stream!(
+                0 -> 1, Some(Mass(30)), Ok(Some(Mass(30))),
+                Ok(flows!(Mass, [0, 0, -10, 10, 0], [0, 30, 20, 10, 30]))
+            ),
+            stream!(1 -> 2, None, Ok(Some(Mass(20))), Err(Determined)),
+            stream!(
+                1 -> 2, Some(Mass(10)), Ok(Some(Mass(10))),
+                Ok(flows!(Mass, [0, 30, 30, 0, 30], [0, 30, 20, 10, 30]))
+            ),
+            stream!(2 -> 0, None, Ok(Some(Mass(30))), Err(Determined)),
         ],
-        amounts: [Some(Mass(7)), Some(Mass(30)), None, Some(Mass(10)), None],
-        isolated: [false, false, false, false, false],
         survey: Ok(Survey {
             classes: [OutOfUse, JustMeasured, Observable, JustMeasured, Observable],
             counts: (2, 0, 0, 2),
         }),
-        value: [
-            Err(NotInUse),
-            Ok(Some(Mass(30))),
-            Ok(Some(Mass(20))),
-            Ok(Some(Mass(10))),
-            Ok(Some(Mass(30))),
-        ],
-        rival: [
-            Err(NotInUse),
-            Ok(Flows {
-                first: [Mass(0), Mass(0), Mass(-10), Mass(10), Mass(0)],
-                second: [Mass(0), Mass(30), Mass(20), Mass(10), Mass(30)],
-            }),
-            Err(Determined),
-            Ok(Flows {
-                first: [Mass(0), Mass(30), Mass(30), Mass(0), Mass(30)],
-                second: [Mass(0), Mass(30), Mass(20), Mass(10), Mass(30)],
-            }),
-            Err(Determined),
-        ],
         dispute: Err(Consistent),
     }))
 }
