@@ -3,7 +3,8 @@ use Rattle.std.proofs.Common.{◌≡◌, ℕ, zero, suc, ◌-◌, ◌<◌, ◌�
 use mathlib.Core.Path.{fun_ext}
 use Rattle.std.proofs.lemmas.List.{get_or-set_same, get_or-set_other, get_or_past}
 use Rattle.std.proofs.lemmas.Bool.{cond-true, cond-false, eq-eqb, ne_eqb, cases_eq}
-use Rattle.calls.specs.Tables.{put, at_number}
+use Rattle.flows.specs.Worked.{at_number}
+use Rattle.calls.specs.Tables.{put}
 
 -- the entry that was changed, and the others
 pub put_here : {X : Type 0} (t : ℕ → X) (n k : ℕ) (v : X) → k ≡ n → put t n v k ≡ v

@@ -3,58 +3,43 @@ ghost use Rattle.std.specs.Prelude.{◌≡◌};
 ghost use Rattle.calls.specs.declared.fault.Fault.TheVariants.{OfPlant, OfSource, OfIsolation, OfQuestion};
 ghost use Rattle.calls.specs.Refusals.{number};
 
-/// Why enter or strike is refused.
+use flows::fault::QuestionFault;
+
+/// Why enter or strike is refused, with the number that it gives.
 #[derive(Clone, Copy, PartialEq, Eq, Debug)]
 pub enum PlantFault {
     /// The stream number is outside 1 to 1,024.
-    NumberOutside,
+    NumberOutside = 1,
     /// A unit is above the plant's unit count.
-    UnitOutside,
+    UnitOutside = 2,
     /// The number is in use.
-    InUse,
+    InUse = 21,
     /// The number is not in use.
-    NotInUse,
+    NotInUse = 22,
 }
 
-/// Why post or withdraw is refused.
+/// Why post or withdraw is refused, with the number that it gives.
 #[derive(Clone, Copy, PartialEq, Eq, Debug)]
 pub enum SourceFault {
     /// The stream number is outside 1 to the reach of the source.
-    OutOfReach,
+    OutOfReach = 1,
     /// The number is held.
-    Held,
+    Held = 23,
     /// There is no reading to withdraw.
-    NoReading,
+    NoReading = 24,
     /// No lines are left.
-    NoLines,
+    NoLines = 25,
 }
 
-/// Why isolate or restore is refused.
+/// Why isolate or restore is refused, with the number that it gives.
 #[derive(Clone, Copy, PartialEq, Eq, Debug)]
 pub enum IsolationFault {
     /// The stream number is outside 1 to the reach of the source.
-    OutOfReach,
+    OutOfReach = 1,
     /// The number is held already, by this layer or below.
-    Held,
+    Held = 23,
     /// The slip has another tally, or this layer itself does not hold its number.
-    ForeignSlip,
-}
-
-/// Why survey, value, rival or dispute is refused.
-#[derive(Clone, Copy, PartialEq, Eq, Debug)]
-pub enum QuestionFault {
-    /// The stream number is outside 1 to 1,024.
-    NumberOutside,
-    /// A table that was handed in is too short.
-    TableTooShort,
-    /// The stream number is not in use.
-    NotInUse,
-    /// The plant is inconsistent: no balanced flow agrees with the readings.
-    Inconsistent,
-    /// The stream is observable or redundant, so that it has no rival flows.
-    Determined,
-    /// The plant is consistent, so that there is nothing in dispute.
-    Consistent,
+    ForeignSlip = 29,
 }
 
 /// Why enter, strike, post, withdraw, isolate, restore or one of the four questions is refused.
@@ -72,23 +57,10 @@ impl Fault {
         ensures { result ≡ number self }
     {
         match self {
-            Fault::OfPlant(PlantFault::NumberOutside) => 1,
-            Fault::OfPlant(PlantFault::UnitOutside) => 2,
-            Fault::OfPlant(PlantFault::InUse) => 21,
-            Fault::OfPlant(PlantFault::NotInUse) => 22,
-            Fault::OfSource(SourceFault::OutOfReach) => 1,
-            Fault::OfSource(SourceFault::Held) => 23,
-            Fault::OfSource(SourceFault::NoReading) => 24,
-            Fault::OfSource(SourceFault::NoLines) => 25,
-            Fault::OfIsolation(IsolationFault::OutOfReach) => 1,
-            Fault::OfIsolation(IsolationFault::Held) => 23,
-            Fault::OfIsolation(IsolationFault::ForeignSlip) => 29,
-            Fault::OfQuestion(QuestionFault::NumberOutside) => 1,
-            Fault::OfQuestion(QuestionFault::TableTooShort) => 3,
-            Fault::OfQuestion(QuestionFault::NotInUse) => 22,
-            Fault::OfQuestion(QuestionFault::Inconsistent) => 26,
-            Fault::OfQuestion(QuestionFault::Determined) => 27,
-            Fault::OfQuestion(QuestionFault::Consistent) => 28,
+            Fault::OfPlant(fault) => fault as u8,
+            Fault::OfSource(fault) => fault as u8,
+            Fault::OfIsolation(fault) => fault as u8,
+            Fault::OfQuestion(fault) => fault.number(),
         }
     }
 }
@@ -97,7 +69,7 @@ impl From<PlantFault> for Fault {
     ghost from_gives = { λ f r. r ≡ OfPlant f };
 
     fn from(fault: PlantFault) -> Fault {
-        Fault::OfPlant(fault)
+        Self::OfPlant(fault)
     }
 }
 
@@ -105,7 +77,7 @@ impl From<SourceFault> for Fault {
     ghost from_gives = { λ f r. r ≡ OfSource f };
 
     fn from(fault: SourceFault) -> Fault {
-        Fault::OfSource(fault)
+        Self::OfSource(fault)
     }
 }
 
@@ -113,7 +85,7 @@ impl From<IsolationFault> for Fault {
     ghost from_gives = { λ f r. r ≡ OfIsolation f };
 
     fn from(fault: IsolationFault) -> Fault {
-        Fault::OfIsolation(fault)
+        Self::OfIsolation(fault)
     }
 }
 
@@ -121,6 +93,6 @@ impl From<QuestionFault> for Fault {
     ghost from_gives = { λ f r. r ≡ OfQuestion f };
 
     fn from(fault: QuestionFault) -> Fault {
-        Fault::OfQuestion(fault)
+        Self::OfQuestion(fault)
     }
 }
