@@ -1,9 +1,8 @@
 -- Sums of masses that do not wrap. Assumes nothing.
-use Rattle.std.proofs.Common.{◌≡◌, ℕ, zero, suc, ◌*◌, ◌^◌, ◌<◌, ◌≤◌, List, map, length, get_or, ℤ, pos, neg_ℤ, ◌≤ℤ◌, sym, refl, ap, ◌∙◌, arith, lit<, w64, SFits}
+use Rattle.std.proofs.Common.{All, ◌≡◌, ℕ, zero, suc, ◌*◌, ◌^◌, ◌<◌, ◌≤◌, List, map, length, get_or, ℤ, pos, neg_ℤ, ◌≤ℤ◌, sym, refl, ap, ◌∙◌, arith, lit<, w64, SFits}
 use mathlib.Core.List.{map-map}
-use Rattle.std.specs.List.{AllByRecursion}
 use Rattle.std.proofs.lemmas.List.{get_or-map, length-map}
-use Rattle.std.proofs.ByRecursion.{All-get_or, All-map}
+use Rattle.std.proofs.lemmas.List.Elements.{All-map}
 use Rattle.std.proofs.lemmas.Int.{ints}
 use Rattle.quantity.specs.Group.{whole}
 use Rattle.quantity.specs.Masses.{counts, grams, bound, Bounded}
@@ -37,16 +36,16 @@ module _ (zs : List ℤ) where
   counted k = get_or zs k (pos 0)
 
   -- a 64-bit number that is the sum of few bounded numbers modulo 2^64 is their sum
-  bounded_sum : length zs ≤ 1024 → AllByRecursion Bounded zs → (r : ℤ) → SFits w64 r → grams r ≡ sum_all counts (map grams zs) → r ≡ sum_all whole zs
+  bounded_sum : length zs ≤ 1024 → All Bounded zs → (r : ℤ) → SFits w64 r → grams r ≡ sum_all counts (map grams zs) → r ≡ sum_all whole zs
   bounded_sum few each r fits e =
       let n = length zs in
       let counts_same : (k : ℕ) → k < n → grams (counted k) ≡ get_or (map grams zs) k counts.zero =
       λ k h. sym (get_or-map grams zs k (pos 0) counts.zero h)
       in
-      grams_same r fits (sum whole n counted) (within_fits n (sum whole n counted) few (sum_within n counted (λ k h. All-get_or Bounded zs k (pos 0) h each)))
+      grams_same r fits (sum whole n counted) (within_fits n (sum whole n counted) few (sum_within n counted (λ k. each k (pos 0))))
       (e ∙ sum_map counts grams zs ∙ sym (grams_sum n counted ∙ sum_same counts n (λ k. grams (counted k)) _ counts_same))
 
 -- the same of the counts of grams that f gives
-pub sum_exact : {X : Type 0} (f : X → ℤ) (xs : List X) → length xs ≤ 1024 → AllByRecursion (λ x. Bounded (f x)) xs → (r : ℤ) → SFits w64 r → grams r ≡ sum_all counts (map (λ x. grams (f x)) xs) → r ≡ sum_all whole (map f xs)
+pub sum_exact : {X : Type 0} (f : X → ℤ) (xs : List X) → length xs ≤ 1024 → All (λ x. Bounded (f x)) xs → (r : ℤ) → SFits w64 r → grams r ≡ sum_all counts (map (λ x. grams (f x)) xs) → r ≡ sum_all whole (map f xs)
 sum_exact f xs few each r fits e =
     bounded_sum (map f xs) (simp length-map few) (All-map Bounded f xs each) r fits (e ∙ ap (sum_all counts) (sym (map-map grams f xs)))

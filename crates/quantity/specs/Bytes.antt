@@ -3,13 +3,12 @@
 -- Eight bs          bs are eight bytes
 -- little bs         the number that bs write, without a sign
 -- signed_little bs  the number that eight bytes write with a sign, in two's complement
-use Rattle.std.specs.Prelude.{◌≡◌, ℕ, ◌+◌, ◌*◌, ◌<◌, List, [], ◌∷◌, length, ℤ}
+use Rattle.std.specs.Prelude.{All, ◌≡◌, ℕ, ◌+◌, ◌*◌, ◌<◌, List, [], ◌∷◌, length, ℤ}
 use Rattle.std.specs.Int.{w64}
 use Rattle.std.proofs.Common.{to_z}
-use Rattle.std.specs.List.{AllByRecursion}
 
 abbrev pub Eight : List ℕ → Type 0
-Eight bs = (length bs ≡ 8) × AllByRecursion (λ b. b < 256) bs
+Eight bs = (length bs ≡ 8) × All (λ b. b < 256) bs
 
 abbrev pub little : List ℕ → ℕ
 little [] = 0

@@ -1,6 +1,5 @@
 //! Totals of amounts, written once for every quantity.
-ghost use Rattle.std.specs.Prelude.{◌≡◌, ◌≤◌, map, length};
-ghost use Rattle.std.specs.List.{AllByRecursion};
+ghost use Rattle.std.specs.Prelude.{◌≡◌, ◌≤◌, All, map, length};
 ghost use Rattle.quantity.specs.Group.{whole};
 ghost use Rattle.quantity.specs.Sums.{sum_all};
 ghost use Rattle.quantity.specs.Masses.{mass_model, Bounded};
@@ -24,7 +23,9 @@ pub fn total<Q: Quantity>(amounts: &[Q]) -> Q
 /// numbers: nothing has wrapped.
 pub fn total_mass(masses: &[Mass]) -> Mass
     ensures wrapped { mass_model.means result ≡ sum_all mass_model.group (map mass_model.means masses.now) }
-    ensures exact { length masses.now ≤ 1024 → AllByRecursion (λ m. Bounded m.0) masses.now → result.0 ≡ sum_all whole (map (λ m. m.0) masses.now) }
+    ensures exact { length masses.now ≤ 1024
+        → All (λ m. Bounded m.0) masses.now
+        → result.0 ≡ sum_all whole (map (λ m. m.0) masses.now) }
 {
     total(masses)
 }
