@@ -1,14 +1,15 @@
 -- What a cut says of the amount of the one stream that crosses it. Assumes nothing.
-use Rattle.std.proofs.Common.{◌≡◌, ℕ, ◌≤◌, Bool, true, false, not, eqb, ◌⊎◌, sym, refl, ap, ◌∙◌, ap₂, inl, inr, ⊎_elim, true≢false}
-use Rattle.std.proofs.lemmas.Bool.{cases_Bool, cases_eq, eq-eqb, ne_eqb, cond-true, cond-false, and_left, and_right, not_from_true}
+use Rattle.std.proofs.Common.{◌≡◌, ℕ, ◌≤◌, Bool, true, false, ◌⊎◌, ◌==◌, sym, refl, ap, ◌∙◌, ap₂, inl, inr, ⊎_elim, arith}
+use Rattle.std.proofs.lemmas.Bool.{cases_eq, false_from_ne_true}
+use Rattle.std.proofs.lemmas.Bool.Decides.{nat_tests}
 use Rattle.quantity.specs.Group.{Group}
-use Rattle.flows.specs.Decisions.{unread, unread_but}
+use Rattle.flows.specs.Decisions.{unread_but}
 use Rattle.flows.specs.Drawings.{Drawing, InUse, Within}
 use Rattle.flows.specs.Flows.{pick, net, Balanced}
 use Rattle.flows.specs.Parts.{Unread, Others, here, Part, Linked}
 use Rattle.flows.specs.Theorems.{ZeroAt, AnythingAt}
 use Rattle.flows.proofs.Balances.{balanced_net}
-use Rattle.flows.proofs.Decisions.{above_size, fails, from_others, unread_but_used, side_is}
+use Rattle.flows.proofs.Decisions.{above_size, from_others, unread_but_used, side_is}
 use Rattle.flows.proofs.Filling.{bump, bump_other, bump_same, net_bump, flow_exists}
 use Rattle.flows.proofs.Groups.{unit_r, minus_zero, negative_only}
 use Rattle.flows.proofs.Joins.{joined_uncrossed, part_uncrossed}
@@ -22,33 +23,27 @@ module _ (G : Group) (D : Drawing) (within : Within D) where
   open G use {Element, plus, minus, unit, inverse}
 
   -- n leaves C, and wherever another stream crosses it the flow has the amount of r: n carries what r owes
-  pub cut_amount : (n : ℕ) → InUse D n → (C : ℕ → Bool) → C (D.from n) ≡ true → C (D.to n) ≡ false → (f r : ℕ → Element) → Balanced G D f → r n ≡ G.zero
+  cut_amount : (n : ℕ) → InUse D n → (C : ℕ → Bool) → C (D.from n) ≡ true → C (D.to n) ≡ false → (f r : ℕ → Element) → Balanced G D f → r n ≡ G.zero
       → ((k : ℕ) → InUse D k → ¬ (n ≡ k) → (r k ≡ f k) ⊎ (C (D.from k) ≡ C (D.to k))) → f n ≡ minus (net G D C r)
   cut_amount n us C i o f r b free same = negative_only G (f n) (net G D C r) (
-      G.comm (f n) (net G D C r)
-      ∙ ap (plus (net G D C r)) (sym (ap₂ (λ x y. plus (pick G x (f n)) (minus (pick G y (f n)))) i o ∙ ap (plus (f n)) (minus_zero G) ∙ unit_r G (f n)))
+      G.comm _ _
+      ∙ ap (plus (net G D C r)) (grind (arith, unit_r G, minus_zero G))
       ∙ sym (net_bump G D C r n (f n) us)
-      ∙ net_same G D C (bump G D r n (f n)) f (λ k u. ⊎_elim
-      (λ (q : n ≡ k). inl (bump_same G D r n (f n) k q free ∙ ap f q))
-      (λ (d : n ≡ k → ⊥). ⊎_elim (λ e. inl (bump_other G D r n (f n) k d ∙ e)) (λ e. inr e) (same k u d))
-      (cases_eq n k))
+      ∙ net_same G D C (bump G D r n (f n)) f (λ k u. grind (arith, same k u, bump_same G D r n (f n) k, bump_other G D r n (f n) k))
       ∙ balanced_net G D within f b C)
 
   module _ (S : ℕ → Bool) (n : ℕ) (us : InUse D n) where
-    -- the side of the from place: n leaves it, and no other stream outside S crosses it
-    pub side_holds : (C : ℕ → Bool) → Part D (Others (Unread D S) n) (D.from n) C → ¬ Linked D S n
-        → (C (D.from n) ≡ true) × (C (D.to n) ≡ false) × ((k : ℕ) → InUse D k → ¬ (n ≡ k) → S k ≡ false → C (D.from k) ≡ C (D.to k))
-    side_holds C p off = (
-      (p (D.from n) (within.from n us)).1 here,
-      fails (C (D.to n)) (λ i. off ((p (D.to n) (within.to n us)).0 i)),
-      λ k u d o. part_uncrossed (Others (Unread D S) n) (ends_within D within (Others (Unread D S) n) (λ _ s. s.0.0)) (D.from n) C p k ((u, o), λ q. d (sym q)),
-    )
-
+    -- n leaves the side of its from place, and no other stream outside S crosses it
     pub side_amount : (C : ℕ → Bool) → Part D (Others (Unread D S) n) (D.from n) C → ¬ Linked D S n → (f r : ℕ → Element) → Balanced G D f → r n ≡ G.zero
         → ((k : ℕ) → InUse D k → ¬ (n ≡ k) → S k ≡ true → r k ≡ f k) → f n ≡ minus (net G D C r)
-    side_amount C p off f r b free same =
-        let h = side_holds C p off in
-        cut_amount n us C h.0 h.1 f r b free (λ k u d. ⊎_elim (λ i. inl (same k u d i)) (λ o. inr (h.2 k u d o)) (cases_Bool (S k)))
+    side_amount C p off f r b free same = cut_amount n us C
+        ((p (D.from n) (within.from n us)).1 here)
+        (false_from_ne_true (C (D.to n)) (λ i. off ((p (D.to n) (within.to n us)).0 i)))
+        f r b free
+        (λ k u d. grind (arith, same k u d, uncrossed k))
+      where
+        uncrossed : (k : ℕ) → Others (Unread D S) n k → C (D.from k) ≡ C (D.to k)
+        uncrossed = part_uncrossed (Others (Unread D S) n) (ends_within D within (Others (Unread D S) n) (λ _ s. s.0.0)) (D.from n) C p
 
     pub zero_at : ¬ Linked D S n → ZeroAt G D S n
     zero_at off f b z =
@@ -56,25 +51,13 @@ module _ (G : Group) (D : Drawing) (within : Within D) where
         ∙ ap minus (net_none G D _ (λ _. G.zero) (λ _ _. inl refl)) ∙ minus_zero G
 
     pub anything_at : S n ≡ false → Linked D S n → AnythingAt G D S n
-    anything_at out j x = (s.0, s.1, (λ k u i. s.2 k (shut k i) ∙ r_other k (λ q. true≢false (sym i ∙ ap S (sym q) ∙ out))), s.2 n shut_n ∙ cond-true (eqb n n) x G.zero (eq-eqb n n refl))
+    anything_at out j x = (s.0, s.1, (λ k u i. s.2 k (grind arith) ∙ grind (arith, nat_tests)), s.2 n (grind (arith, nat_tests)) ∙ grind (arith, nat_tests))
       where
-        e : ℕ → Bool
-        e = unread_but D S n
-
         r : ℕ → Element
-        r k = pick G (eqb n k) x
+        r k = pick G (n == k) x
 
-        r_other : (k : ℕ) → ¬ (n ≡ k) → r k ≡ G.zero
-        r_other k d = cond-false (eqb n k) x G.zero (ne_eqb n k d)
-
-        shut : (k : ℕ) → S k ≡ true → e k ≡ false
-        shut k i = and_left (unread D S k) (not (eqb k n)) (and_right (D.used k) (not (S k)) (not_from_true (S k) i))
-
-        shut_n : e n ≡ false
-        shut_n = and_right (unread D S n) (not (eqb n n)) (not_from_true (eqb n n) (eq-eqb n n refl))
-
-        s : (f : ℕ → Element) × Balanced G D f × ((k : ℕ) → e k ≡ false → f k ≡ r k)
-        s = flow_exists G D within e (λ k _. unread_but_used D S n k) r (λ C c. net_none G D C r (λ k _. ⊎_elim
+        s : (f : ℕ → Element) × Balanced G D f × ((k : ℕ) → unread_but D S n k ≡ false → f k ≡ r k)
+        s = flow_exists G D within (unread_but D S n) (λ k _. unread_but_used D S n k) r (λ C c. net_none G D C r (λ k _. ⊎_elim
             (λ (q : n ≡ k). inr (ap (λ i. C (D.from i)) (sym q) ∙ joined_uncrossed C (λ k o. c k (from_others D S D.size (above_size D) n k o)) j ∙ ap (λ i. C (D.to i)) q))
-            (λ (d : n ≡ k → ⊥). inl (r_other k d))
+            (λ (d : n ≡ k → ⊥). inl (grind (arith, nat_tests)))
             (cases_eq n k)))

@@ -2,8 +2,9 @@
 --
 -- A loop over the streams without an amount starts with `fill_start`, takes `fill_skip` or `fill_next` at each, in any
 -- order, and ends with `fill_done`.
-use Rattle.std.proofs.Common.{◌≡◌, ℕ, zero, suc, ◌<◌, ◌≤◌, Bool, true, false, not, ◌&&◌, eqb, ◌⊎◌, sym, refl, ap, ◌∙◌, ap₂, inl, inr, ⊎_elim, true≢false, arith}
-use Rattle.std.proofs.lemmas.Bool.{cases_Bool, cases_eq, eq-eqb, ne_eqb, eqb-true, cond-true, cond-false, not_from_true, not_from_false}
+use Rattle.std.proofs.Common.{◌≡◌, ℕ, zero, suc, ◌<◌, ◌≤◌, Bool, true, false, not, ◌&&◌, ◌⊎◌, ◌==◌, sym, refl, ap, ◌∙◌, ap₂, inl, inr, ⊎_elim, true≢false, arith}
+use Rattle.std.proofs.lemmas.Bool.{cases_Bool, cases_eq, eq-eqb, eqb-true, not_from_true, not_from_false}
+use Rattle.std.proofs.lemmas.Bool.Decides.{nat_tests}
 use Rattle.quantity.specs.Group.{Group}
 use Rattle.quantity.proofs.GroupSums.{sum_same}
 use Rattle.flows.specs.Decisions.{label}
@@ -12,18 +13,17 @@ use Rattle.flows.specs.Filling.{Fillable, FillSide}
 use Rattle.flows.specs.Flows.{pick, net, Balanced}
 use Rattle.flows.specs.Labels.{Below, Labels}
 use Rattle.flows.specs.Parts.{Joined, Uncrossed}
-use Rattle.flows.proofs.Balances.{balanced_from_nets}
 use Rattle.flows.proofs.Computed.{label_is}
 use Rattle.flows.proofs.Groups.{unit_r, minus_zero}
 use Rattle.flows.proofs.Joins.{joined_uncrossed}
-use Rattle.flows.proofs.Nets.{crossing, net_is, net_plus, net_same, net_from_not, net_less}
-use Rattle.flows.proofs.Sums.{pick_zero, sum_one}
+use Rattle.flows.proofs.Nets.{crossing, net_is, net_plus, net_same, net_from_not, net_less, balanced_from_nets}
+use Rattle.flows.proofs.Sums.{sum_one}
 
 -- labels by the streams of S give the side of the from place of n
-pub labels_side : (D : Drawing) (S : ℕ → Type 0) → Within D → (n : ℕ) (label : ℕ → ℕ) → D.from n ≤ D.units → Labels D S label → FillSide D S n (λ w. eqb (label w) (label (D.from n)))
+pub labels_side : (D : Drawing) (S : ℕ → Type 0) → Within D → (n : ℕ) (label : ℕ → ℕ) → D.from n ≤ D.units → Labels D S label → FillSide D S n (λ w. label w == label (D.from n))
 labels_side D S within n label fl h = record {
   self = eq-eqb (label (D.from n)) (label (D.from n)) refl;
-  uncrossed = λ k b. ap (λ x. eqb x (label (D.from n))) (h.alike k b);
+  uncrossed = λ k b. ap (λ x. x == label (D.from n)) (h.alike k b);
   from = λ k us y. h.joined (D.from n) (D.from k) fl (within.from k us) (sym (eqb-true (label (D.from k)) (label (D.from n)) y));
   to = λ k us y. h.joined (D.from n) (D.to k) fl (within.to k us) (sym (eqb-true (label (D.to k)) (label (D.from n)) y));
 }
@@ -33,43 +33,39 @@ module _ (G : Group) (D : Drawing) where
 
   -- x more at stream n
   unfoldable pub bump : (ℕ → Element) → ℕ → Element → ℕ → Element
-  bump r n x k = plus (r k) (pick G (eqb n k) x)
+  bump r n x k = plus (r k) (pick G (n == k) x)
 
   pub bump_other : (r : ℕ → Element) (n : ℕ) (x : Element) (k : ℕ) → ¬ (n ≡ k) → bump r n x k ≡ r k
   unfolding bump
-  bump_other r n x k d = ap (plus (r k)) (cond-false (eqb n k) x G.zero (ne_eqb n k d)) ∙ unit_r G (r k)
+  bump_other r n x k d = grind (arith, nat_tests, unit_r G)
 
   pub bump_same : (r : ℕ → Element) (n : ℕ) (x : Element) (k : ℕ) → n ≡ k → r n ≡ G.zero → bump r n x k ≡ x
   unfolding bump
-  bump_same r n x k q free = ap₂ plus (ap r (sym q) ∙ free) (cond-true (eqb n k) x G.zero (eq-eqb n k q)) ∙ unit x
+  bump_same r n x k q free = grind (arith, nat_tests, unit)
 
   pub net_bump : (C : ℕ → Bool) (r : ℕ → Element) (n : ℕ) (x : Element) → InUse D n
       → net G D C (bump r n x) ≡ plus (net G D C r) (plus (pick G (C (D.from n)) x) (minus (pick G (C (D.to n)) x)))
   unfolding bump crossing
   net_bump C r n x us =
-      net_plus G D C r (λ k. pick G (eqb n k) x)
+      net_plus G D C r (λ k. pick G (n == k) x)
       ∙ ap (plus (net G D C r)) (
-      net_is G D C (λ k. pick G (eqb n k) x)
-      ∙ sum_same G D.size _ _ (λ k _. at (eqb n k) (D.used k) (C (D.from k)) (C (D.to k)))
+      net_is G D C (λ k. pick G (n == k) x)
+      ∙ sum_same G D.size _ (λ k. pick G (n == k) (crossing G D C (λ _. x) k)) (λ k _. grind (arith, unit, minus_zero G))
       ∙ sum_one G D.size n (crossing G D C (λ _. x)) us.0
-      ∙ ap (λ u. pick G u (plus (pick G (C (D.from n)) x) (minus (pick G (C (D.to n)) x)))) us.1)
-    where
-      at : (q u a b : Bool) → pick G u (plus (pick G a (pick G q x)) (minus (pick G b (pick G q x)))) ≡ pick G q (pick G u (plus (pick G a x) (minus (pick G b x))))
-      at true u a b = refl
-      at false u a b = ap (pick G u) (ap₂ plus (pick_zero G a) (ap minus (pick_zero G b) ∙ minus_zero G) ∙ unit _) ∙ pick_zero G u
+      ∙ grind (arith, us.1))
 
   -- a set that n alone of S may cross is uncrossed where n has both ends in it or both outside
   uncrossed_more : (S T : ℕ → Type 0) (n : ℕ) → ((k : ℕ) → S k → T k ⊎ (k ≡ n)) → (C : ℕ → Bool) → Uncrossed D T C → C (D.from n) ≡ C (D.to n) → Uncrossed D S C
-  uncrossed_more S T n but C c flat k s = ⊎_elim
-      (λ b. c k b)
-      (λ (q : k ≡ n). ap (λ i. C (D.from i)) q ∙ flat ∙ ap (λ i. C (D.to i)) (sym q))
-      (but k s)
+  uncrossed_more S T n but C c flat k s = grind (arith, but k s, c k)
 
   -- S is T, and n besides
   module _ (S T : ℕ → Type 0) (n : ℕ) (but : (k : ℕ) → S k → T k ⊎ (k ≡ n)) (us : InUse D n) where
     bump_with : (r : ℕ → Element) → Fillable G D S r → (B : ℕ → Bool) → FillSide D T n B
         → (C : ℕ → Bool) → Uncrossed D T C → C (D.from n) ≡ true → net G D C (bump r n (minus (net G D B r))) ≡ G.zero
-    bump_with r h B side C c i = net_bump C r n x us ∙ at (C (D.to n)) refl
+    bump_with r h B side C c i = net_bump C r n x us ∙ ⊎_elim
+        (λ q. ap₂ plus (h C (uncrossed_more S T n but C c (i ∙ sym q))) (rw (i, q, inverse)) ∙ unit _)
+        (λ q. ap₂ plus (same q) (rw (i, q, minus_zero G, unit_r G)) ∙ inverse _)
+        (cases_Bool (C (D.to n)))
       where
         x : Element
         x = minus (net G D B r)
@@ -77,50 +73,35 @@ module _ (G : Group) (D : Drawing) where
         E : ℕ → Bool
         E w = C w && not (B w)
 
-        out : (a b : Bool) → b ≡ true → (a && not b) ≡ false
-        out true b q = not_from_true b q
-        out false b q = refl
-
-        at : (t : Bool) → C (D.to n) ≡ t → plus (net G D C r) (plus (pick G (C (D.from n)) x) (minus (pick G (C (D.to n)) x))) ≡ G.zero
-        at true q =
-            ap₂ plus (h C (uncrossed_more S T n but C c (i ∙ sym q))) (ap₂ (λ a b. plus (pick G a x) (minus (pick G b x))) i q ∙ inverse x) ∙ unit _
-        at false q =
-            let rest : net G D E r ≡ G.zero = h E (uncrossed_more S T n but E
-            (λ k b. ap₂ (λ a b. a && not b) (c k b) (side.uncrossed k b))
-            (out (C (D.from n)) (B (D.from n)) side.self ∙ sym (ap (λ a. a && not (B (D.to n))) q))) in
-            let same : net G D C r ≡ net G D B r =
+        -- C is the side and a set that n does not cross
+        same : C (D.to n) ≡ false → net G D C r ≡ net G D B r
+        same q =
             sym (net_less G D B C r (λ k u. (λ y. sym (joined_uncrossed C c (side.from k u y)) ∙ i, λ y. sym (joined_uncrossed C c (side.to k u y)) ∙ i)))
-            ∙ ap (λ s. plus s (net G D B r)) rest ∙ unit _ in
-            ap₂ plus same (ap₂ (λ a b. plus (pick G a x) (minus (pick G b x))) i q ∙ ap (plus x) (minus_zero G) ∙ unit_r G x) ∙ inverse (net G D B r)
+            ∙ ap₂ plus (h E (uncrossed_more S T n but E (λ k b. ap₂ (λ a b. a && not b) (c k b) (side.uncrossed k b)) (grind (arith, side.self)))) refl
+            ∙ unit _
 
     fill_bump : (r : ℕ → Element) → Fillable G D S r → (B : ℕ → Bool) → FillSide D T n B → Fillable G D T (bump r n (minus (net G D B r)))
     fill_bump r h B side C c = ⊎_elim
-        (λ i. bump_with r h B side C c i)
+        (bump_with r h B side C c)
         (λ o. net_from_not G D C _ (bump_with r h B side (λ w. not (C w)) (λ k b. ap not (c k b)) (not_from_false (C (D.from n)) o)))
         (cases_Bool (C (D.from n)))
 
     -- n is given the amount that makes the net of the side of its from place zero
     pub fill_next : (r filled : ℕ → Element) (B : ℕ → Bool) → FillSide D T n B → r n ≡ G.zero → filled n ≡ minus (net G D B r)
         → ((k : ℕ) → InUse D k → ¬ (n ≡ k) → filled k ≡ r k) → Fillable G D S r → Fillable G D T filled
-    fill_next r filled B side free new old h C c = net_same G D C filled (bump r n x) (λ k u. inl (⊎_elim
-        (λ (q : n ≡ k). ap filled (sym q) ∙ new ∙ sym (bump_same r n x k q free))
-        (λ (d : n ≡ k → ⊥). old k u d ∙ sym (bump_other r n x k d))
+    fill_next r filled B side free new old h C c =
+        net_same G D C filled (bump r n (minus (net G D B r))) (λ k u. inl (⊎_elim
+        (λ q. ap filled (sym q) ∙ new ∙ sym (bump_same r n _ k q free))
+        (λ d. old k u d ∙ sym (bump_other r n _ k d))
         (cases_eq n k)))
         ∙ fill_bump r h B side C c
-      where
-        x : Element
-        x = minus (net G D B r)
 
     -- n may be given any amount where streams of T join its ends
     pub fill_free : (r filled : ℕ → Element) → Joined D T (D.from n) (D.to n)
         → ((k : ℕ) → InUse D k → ¬ (n ≡ k) → filled k ≡ r k) → Fillable G D S r → Fillable G D T filled
     fill_free r filled j old h C c =
         let flat : C (D.from n) ≡ C (D.to n) = joined_uncrossed C c j in
-        net_same G D C filled r (λ k u. ⊎_elim
-        (λ (q : n ≡ k). inr (ap (λ i. C (D.from i)) (sym q) ∙ flat ∙ ap (λ i. C (D.to i)) q))
-        (λ (d : n ≡ k → ⊥). inl (old k u d))
-        (cases_eq n k))
-        ∙ h C (uncrossed_more S T n but C c flat)
+        net_same G D C filled r (λ k u. grind (arith, old k u)) ∙ h C (uncrossed_more S T n but C c flat)
 
   pub fill_skip : (S T : ℕ → Type 0) → ((k : ℕ) → S k → T k) → (r : ℕ → Element) → Fillable G D S r → Fillable G D T r
   fill_skip S T more r h C c = h C (λ k s. c k (more k s))
@@ -128,8 +109,8 @@ module _ (G : Group) (D : Drawing) where
   -- sets with the surroundings need no condition of their own
   pub fill_start : (S : ℕ → Type 0) (r : ℕ → Element) → ((C : ℕ → Bool) → Uncrossed D S C → C 0 ≡ false → net G D C r ≡ G.zero) → Fillable G D S r
   fill_start S r h C c = ⊎_elim
-      (λ (i : C 0 ≡ true). net_from_not G D C r (h (λ w. not (C w)) (λ k s. ap not (c k s)) (not_from_true (C 0) i)))
-      (λ (o : C 0 ≡ false). h C c o)
+      (λ i. net_from_not G D C r (h (λ w. not (C w)) (λ k s. ap not (c k s)) (not_from_true (C 0) i)))
+      (h C c)
       (cases_Bool (C 0))
 
   pub fill_done : (S : ℕ → Type 0) (r : ℕ → Element) → ((k : ℕ) → ¬ S k) → Fillable G D S r → Balanced G D r
@@ -143,29 +124,28 @@ module _ (G : Group) (D : Drawing) (within : Within D) (e : ℕ → Bool) (used 
   Filled r = (f : ℕ → Element) × Balanced G D f × ((k : ℕ) → e k ≡ false → f k ≡ r k)
 
   below_or_last : (n k : ℕ) → Below (suc n) e k → Below n e k ⊎ (k ≡ n)
-  below_or_last n k b = ⊎_elim (λ q. inr q) (λ d. inl (omega (arith, b.0), b.1)) (cases_eq k n)
+  below_or_last n k b = grind arith
 
   fill_below : (n : ℕ) → n ≤ D.size → (r : ℕ → Element) → Fillable G D (Below n e) r → Filled r
   unfolding Filled
   fill_below zero le r h = (r, fill_done G D (Below 0 e) r (λ k b. omega (arith, b.0)) h, λ k _. refl)
-  fill_below (suc n) le r h = at (e n) refl (fill_below n (omega arith) r) (fill_below n (omega arith) (bump G D r n x))
+  fill_below (suc n) le r h = ⊎_elim (λ i. take i (fill_below n (omega arith) (bump G D r n x))) (λ o. fill_below n (omega arith) r (skip o)) (cases_Bool (e n))
     where
       B : ℕ → Bool
-      B w = eqb (label D e n w) (label D e n (D.from n))
+      B w = label D e n w == label D e n (D.from n)
 
       x : Element
       x = minus (net G D B r)
 
-      below : e n ≡ false → (k : ℕ) → Below (suc n) e k → Below n e k
-      below o k b = ⊎_elim (λ l. l) (λ q. absurd (true≢false (sym b.1 ∙ ap e q ∙ o))) (below_or_last n k b)
+      skip : e n ≡ false → Fillable G D (Below n e) r
+      skip o = fill_skip G D (Below (suc n) e) (Below n e) (λ k b. grind arith) r h
 
-      at : (b : Bool) → e n ≡ b → (Fillable G D (Below n e) r → Filled r) → (Fillable G D (Below n e) (bump G D r n x) → Filled (bump G D r n x)) → Filled r
-      at false o skip take = skip (fill_skip G D (Below (suc n) e) (Below n e) (below o) r h)
-      at true i skip take =
+      take : e n ≡ true → (Fillable G D (Below n e) (bump G D r n x) → Filled (bump G D r n x)) → Filled r
+      take i ih =
           let us : InUse D n = (omega arith, used n (omega arith) i) in
           let side : FillSide D (Below n e) n B = labels_side D (Below n e) within n (label D e n) (within.from n us) (label_is D e within used n (omega arith)) in
-          let s = take (fill_bump G D (Below (suc n) e) (Below n e) n (below_or_last n) us r h B side) in
-          (s.0, s.1, λ k o. s.2 k o ∙ bump_other G D r n x k (λ p. true≢false (sym i ∙ ap e p ∙ o)))
+          let s = ih (fill_bump G D (Below (suc n) e) (Below n e) n (below_or_last n) us r h B side) in
+          (s.0, s.1, λ k o. s.2 k o ∙ bump_other G D r n x k (grind arith))
 
   pub flow_exists : (r : ℕ → Element) → Fillable G D (Below D.size e) r → (f : ℕ → Element) × Balanced G D f × ((k : ℕ) → e k ≡ false → f k ≡ r k)
   unfolding Filled

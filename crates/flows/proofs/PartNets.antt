@@ -1,18 +1,19 @@
 -- Parts, and the sets of places that are made of them. Assumes nothing.
 use Rattle.std.proofs.Common.{◌≡◌, ℕ, zero, suc, ◌<◌, ◌≤◌, Bool, true, false, not, ◌&&◌, eqb, ◌⊎◌, Option, sym, ap, ◌∙◌, subst, ap₂, inl, inr, ⊎_elim, true≢false, arith}
 use Rattle.std.proofs.lemmas.Bool.{cases_eq, cases_Bool, cases_lt, and_parts, and_cases, and_left, not-true, or_cases, or_parts}
+use Rattle.std.proofs.lemmas.Bool.Decides.{same_from_decides}
 use Rattle.quantity.specs.Group.{Group}
 use Rattle.flows.specs.Comparisons.{Comparison}
 use Rattle.flows.specs.Consistency.{net_reading, InDispute, Inconsistent, Consistent}
 use Rattle.flows.specs.Decisions.{Above, part, undisputed, all_undisputed, consistent}
 use Rattle.flows.specs.Drawings.{Drawing, Within}
+use Rattle.flows.specs.Filling.{Fillable}
 use Rattle.flows.specs.Flows.{net, read_set, readings}
 use Rattle.flows.specs.Labels.{Labels}
 use Rattle.flows.specs.Parts.{Unread, here, Part, Uncrossed}
-use Rattle.flows.proofs.Balances.{net_empty}
-use Rattle.flows.proofs.Cuts.{ends_within}
+use Rattle.flows.proofs.Balances.{parts_fillable}
 use Rattle.flows.proofs.Decisions.{above_size, fails, part_is, net_short}
-use Rattle.flows.proofs.Joins.{same_test, joined_uncrossed, part_uncrossed}
+use Rattle.flows.proofs.Joins.{joined_uncrossed, part_uncrossed}
 use Rattle.flows.proofs.Merging.{labels_part}
 use Rattle.flows.proofs.Nets.{net_alike, net_less}
 
@@ -24,7 +25,7 @@ module _ (G : Group) (D : Drawing) (within : Within D) where
   part_net S r v B C p q = net_alike G D B C r (λ k us. (at (D.from k) (within.from k us), at (D.to k) (within.to k us)))
     where
       at : (w : ℕ) → w ≤ D.units → B w ≡ C w
-      at w lw = same_test (B w) (C w) (λ i. (q w lw).1 ((p w lw).0 i)) (λ i. (p w lw).1 ((q w lw).0 i))
+      at w lw = same_from_decides (B w) (C w) (p w lw) (q w lw)
 
   module _ (t : ℕ → Option Element) where
     own : ℕ → ℕ → Bool
@@ -34,54 +35,10 @@ module _ (G : Group) (D : Drawing) (within : Within D) where
     unfolding own
     own_is = part_is D (read_set t) D.size (above_size D) within
 
-    own_uncrossed : (v : ℕ) → v ≤ D.units → Uncrossed D (Unread D (read_set t)) (own v)
-    own_uncrossed v lv = part_uncrossed (Unread D (read_set t)) (ends_within D within (Unread D (read_set t)) (λ _ u. u.0)) v (own v) (own_is v lv)
-
-    -- an uncrossed set with places below m alone is taken apart, one part at a time
-    strip : Consistent G D t → (m : ℕ) (C : ℕ → Bool) → Uncrossed D (Unread D (read_set t)) C → C 0 ≡ false → ((w : ℕ) → w ≤ D.units → C w ≡ true → w < m) → net_reading G D t C ≡ G.zero
-    strip h zero C c o low = net_empty G D within C (readings G t) (λ v lv. fails (C v) (λ i. omega (arith, low v lv i)))
-    strip h (suc m) C c o low = ⊎_elim
-        (λ (lt : m < suc D.units). ⊎_elim (has (strip h m) (omega arith)) (λ q. strip h m C c o (smaller q)) (cases_Bool (C m)))
-        (λ (ge : suc D.units ≤ m). strip h m C c o (λ w b i. omega arith))
-        (cases_lt m (suc D.units))
-      where
-        smaller : C m ≡ false → (w : ℕ) → w ≤ D.units → C w ≡ true → w < m
-        smaller q w b i = ⊎_elim (λ (e : w ≡ m). absurd (true≢false (sym i ∙ ap C e ∙ q))) (λ d. omega (arith, low w b i)) (cases_eq w m)
-
-        has : ((C : ℕ → Bool) → Uncrossed D (Unread D (read_set t)) C → C 0 ≡ false → ((w : ℕ) → w ≤ D.units → C w ≡ true → w < m) → net_reading G D t C ≡ G.zero)
-            → m ≤ D.units → C m ≡ true → net_reading G D t C ≡ G.zero
-        has ih le i =
-            sym (net_less G D B C (readings G t) (λ k us. (inside (D.from k) (within.from k us), inside (D.to k) (within.to k us))))
-            ∙ ap₂ plus
-            (ih E (λ k u. ap₂ (λ a b. a && not b) (c k u) (own_uncrossed m le k u)) (and_left (C 0) (not (B 0)) o) fewer)
-            (h m le B (own_is m le) (fails (B 0) (λ y. true≢false (sym (inside 0 (omega arith) y) ∙ o))))
-            ∙ unit _
-          where
-            B : ℕ → Bool
-            B = own m
-
-            E : ℕ → Bool
-            E w = C w && not (B w)
-
-            inside : (w : ℕ) → w ≤ D.units → B w ≡ true → C w ≡ true
-            inside w lw b = sym (joined_uncrossed C c ((own_is m le w lw).0 b)) ∙ i
-
-            fewer : (w : ℕ) → w ≤ D.units → E w ≡ true → w < m
-            fewer w b q =
-                let p = and_parts (C w) (not (B w)) q in
-                ⊎_elim (λ (e : w ≡ m). absurd (true≢false (sym ((own_is m le m le).1 here) ∙ ap B (sym e) ∙ not-true (B w) p.1))) (λ d. omega (arith, low w b p.0)) (cases_eq w m)
-
-    -- where each part without place 0 has net zero, so has each set that no unread stream crosses
-    pub sets_net_zero : Consistent G D t → (C : ℕ → Bool) → Uncrossed D (Unread D (read_set t)) C → C 0 ≡ false → net_reading G D t C ≡ G.zero
-    sets_net_zero h C c o = strip h (suc D.units) C c o (λ w b _. omega arith)
-
-    -- the test by labels
-    pub consistent_from_labels : (label : ℕ → ℕ) → Labels D (Unread D (read_set t)) label
-        → ((v : ℕ) → v ≤ D.units → eqb (label 0) (label v) ≡ false → net_reading G D t (λ w. eqb (label w) (label v)) ≡ G.zero) → Consistent G D t
-    consistent_from_labels label h e v lv C p o =
-        let q = labels_part D (Unread D (read_set t)) label h v lv in
-        part_net (Unread D (read_set t)) (readings G t) v C (λ w. eqb (label w) (label v)) p q
-        ∙ e v lv (fails (eqb (label 0) (label v)) (λ i. true≢false (sym ((p 0 (omega arith)).1 ((q 0 (omega arith)).0 i)) ∙ o)))
+    -- the readings of a consistent plant can be filled in on the unread streams
+    pub fill_consistent : Consistent G D t → Fillable G D (Unread D (read_set t)) (readings G t)
+    unfolding own
+    fill_consistent h = parts_fillable G D within (Unread D (read_set t)) (λ _ u. u.0) own own_is (readings G t) (λ v lv o. h v lv (own v) (own_is v lv) o)
 
     -- the computed test
     module _ (s : Comparison G) (m : ℕ) (above : Above D m) where

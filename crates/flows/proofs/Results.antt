@@ -16,7 +16,7 @@ use Rattle.flows.specs.Theorems.{BalancedFlowsHaveNoNet, SomeFlowExactlyIfConsis
 use Rattle.flows.proofs.Balances.{balanced_net, balanced_plus, balanced_difference}
 use Rattle.flows.proofs.Cuts.{ends_within, side_amount, zero_at, anything_at}
 use Rattle.flows.proofs.Decisions.{above_size, from_unread, unread_used, side_is, linked_decides, class_is, class_only, net_short, linked_from_one_part, linked_from_path, path_from_linked, one_part_from_linked}
-use Rattle.flows.proofs.PartNets.{sets_net_zero, not_both, not_neither, one_of_both}
+use Rattle.flows.proofs.PartNets.{fill_consistent, not_both, not_neither, one_of_both}
 use Rattle.flows.proofs.Filling.{fill_start, fill_skip, fill_free, flow_exists}
 use Rattle.flows.proofs.Groups.{made_up, minus_difference, same_from_difference, unit_r}
 use Rattle.flows.proofs.Joins.{joined_map, joined_trans, joined_sym, joined_ends, part_uncrossed}
@@ -78,18 +78,6 @@ module _ (G : Group) where
   parts_uncrossed : (D : Drawing) → Within D → (t : ℕ → Option Element) (v : ℕ) (C : ℕ → Bool) → Part D (Unread D (read_set t)) v C → Uncrossed D (Unread D (read_set t)) C
   parts_uncrossed D w t v C p = part_uncrossed (Unread D (read_set t)) (ends_within D w (Unread D (read_set t)) (λ _ u. u.0)) v C p
 
-  -- the readings of a consistent plant can be filled in on the unread streams
-  pub fill_consistent : (D : Drawing) → Within D → (t : ℕ → Option Element) → Consistent G D t → Fillable G D (Unread D (read_set t)) (readings G t)
-  fill_consistent D w t h = fill_start G D (Unread D (read_set t)) (readings G t) (sets_net_zero G D w t h)
-
-  -- .. and so can they with any amount at a linked stream n, on the unread streams other than n
-  pub fill_rival : (D : Drawing) → Within D → (t : ℕ → Option Element) → Consistent G D t → (n : ℕ) → InUse D n → Linked D (read_set t) n
-      → (r : ℕ → Element) → ((k : ℕ) → InUse D k → ¬ (n ≡ k) → r k ≡ readings G t k) → Fillable G D (Others (Unread D (read_set t)) n) r
-  fill_rival D w t h n us j r same = fill_free G D (Unread D (read_set t)) (Others (Unread D (read_set t)) n) n but us (readings G t) r j same (fill_consistent D w t h)
-    where
-      but : (k : ℕ) → Unread D (read_set t) k → Others (Unread D (read_set t)) n k ⊎ (k ≡ n)
-      but k u = ⊎_elim (λ q. inr q) (λ d. inl (u, d)) (cases_eq k n)
-
   pub some_flow_exactly_if_consistent : SomeFlowExactlyIfConsistent G
   some_flow_exactly_if_consistent D w t = (λ s v _ C p _. flow_net D w t s C (parts_uncrossed D w t v C p), solved)
     where
@@ -102,7 +90,7 @@ module _ (G : Group) where
       solved : Consistent G D t → SomeFlow G D t
       solved h =
           let s = flow_exists G D w (unread D R) (λ k _. unread_used D R k) (readings G t)
-          (fill_skip G D (Unread D R) (Below D.size (unread D R)) (from_unread D R D.size (above_size D)) (readings G t) (fill_consistent D w t h)) in
+          (fill_skip G D (Unread D R) (Below D.size (unread D R)) (from_unread D R D.size (above_size D)) (readings G t) (fill_consistent G D w t h)) in
           (s.0, record { balanced = s.1; agrees = λ k us x e. s.2 k (shut k (has_reading t k x e)) ∙ ap (amount G) e })
 
   conflict_excludes : (D : Drawing) → Within D → (t : ℕ → Option Element) → SomeConflict G D t → ¬ SomeFlow G D t
