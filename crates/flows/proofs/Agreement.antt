@@ -1,22 +1,20 @@
 -- The definitions leave each question one answer, rival's flows apart. Assumes nothing.
-use Rattle.std.proofs.Common.{◌≡◌, ℕ, suc, ◌<◌, ◌≤◌, cond, eqb, ◌⊎◌, is_some, Some, None, Ok, Err, Option, Result, sym, refl, ap, ◌∙◌, subst, inl, inr, ⊎_elim, true≢false, arith}
-use Rattle.std.proofs.lemmas.Bool.{cases_Bool, cases_lt, not-true, not_from_false}
+use Rattle.std.proofs.Common.{◌≡◌, ℕ, suc, ◌≤◌, ◌⊎◌, Some, None, Ok, Err, Option, Result, sym, refl, ap, ◌∙◌, inr, ⊎_elim, arith}
+use Rattle.std.proofs.lemmas.Bool.{cases_lt, not-true, not_from_false, false_from_ne_true, true_from_ne_false}
 use Rattle.quantity.specs.Group.{Group}
 use Rattle.quantity.specs.Model.{Model}
-use Rattle.flows.specs.Classes.{Is, byte}
 use Rattle.flows.specs.Consistency.{CutSum}
-use Rattle.flows.specs.Decisions.{part, consistent, cut_sum}
+use Rattle.flows.specs.Decisions.{cut_sum}
 use Rattle.flows.specs.declared.fault.QuestionFault.{QuestionFault}
-use Rattle.flows.specs.declared.fault.QuestionFault.TheVariants.{NumberOutside, TableTooShort, NotInUse, Inconsistent, Determined, Consistent}
 use Rattle.flows.specs.Drawings.{Drawing, Within}
 use Rattle.flows.specs.Flows.{net, read_set, readings}
-use Rattle.flows.specs.Parts.{Unread, Others, Joined, Part}
+use Rattle.flows.specs.Parts.{Unread, Others, Joined}
 use Rattle.flows.specs.Plants.{last_number}
 use Rattle.flows.specs.Questions.{SurveyFits, ValueFits, RivalFits, DisputeFits, unit_places, meant, holds, count, Surveyed, Valued, by_reading, by_cut_sum, no_amount, Disputed}
 use Rattle.flows.specs.Refusals.{number, Answer, accepted}
 use Rattle.flows.specs.Theorems.{DecisionsAreRight, SurveyAnswersAgree, ValueAnswersAgree, RivalAnswersAgree, DisputeAnswersAgree}
 use Rattle.flows.proofs.Cuts.{ends_within}
-use Rattle.flows.proofs.Decisions.{above_size, fails, part_is, class_is, class_only}
+use Rattle.flows.proofs.Decisions.{class_decides}
 use Rattle.flows.proofs.PartNets.{part_net, consistent_if, inconsistent_if, not_both}
 use Rattle.flows.proofs.Groups.{minus_difference}
 use Rattle.flows.proofs.Joins.{joined_within}
@@ -33,36 +31,15 @@ cut_sum_only G D w t n x y a b =
 
 pub decisions_are_right : (G : Group) → DecisionsAreRight G
 decisions_are_right G D w t m above = record {
-  class = λ n known c. (class_only D w (read_set t) m above n known c, λ e. subst (λ c. Is D (read_set t) c n) (sym e) (class_is D w (read_set t) m above n known));
-  consistent = λ s. (
-    consistent_if G D w t s m above,
-    λ h. ⊎_elim (λ e. e) (λ e. absurd (not_both G D w t h (inconsistent_if G D w t s m above e))) (cases_Bool (consistent G s D t m)),
-  );
-  inconsistent = λ s. (
-    λ e. inconsistent_if G D w t s m above (not-true (consistent G s D t m) e),
-    λ i. not_from_false (consistent G s D t m) (fails (consistent G s D t m) (λ e. not_both G D w t (consistent_if G D w t s m above e) i)),
-  );
-  cut_sum = λ n us x. (
-    λ c. cut_sum_only G D w t n x (cut_sum G D t m n) c (cut_sum_is G D t m above w n us (cut_sum G D t m n) refl),
-    λ e. cut_sum_is G D t m above w n us x e,
-  );
+  class = class_decides D (read_set t) w m above;
+  consistent = λ s. (consistent_if G D w t s m above, λ h. true_from_ne_false _ (λ e. not_both G D w t h (inconsistent_if G D w t s m above e)));
+  inconsistent = λ s. (λ e. inconsistent_if G D w t s m above (not-true _ e), λ i. not_from_false _ (false_from_ne_true _ (λ e. not_both G D w t (consistent_if G D w t s m above e) i)));
+  cut_sum = λ n us x. (λ c. cut_sum_only G D w t n x (cut_sum G D t m n) c (cut_sum_is G D t m above w n us _ refl), cut_sum_is G D t m above w n us x);
 }
-
-fault_of : ℕ → QuestionFault
-fault_of n = cond (eqb n 1) NumberOutside (cond (eqb n 3) TableTooShort (cond (eqb n 22) NotInUse (cond (eqb n 26) Inconsistent (cond (eqb n 27) Determined Consistent))))
-
-fault_of_number : (f : QuestionFault) → fault_of (number f) ≡ f
-unfolding fault_of
-fault_of_number NumberOutside = refl
-fault_of_number TableTooShort = refl
-fault_of_number NotInUse = refl
-fault_of_number Inconsistent = refl
-fault_of_number Determined = refl
-fault_of_number Consistent = refl
 
 -- of two refusals that fit, neither with a smaller number, both are one
 one_refusal : (f g : QuestionFault) → number f ≤ number g → number g ≤ number f → f ≡ g
-one_refusal f g a b = let e : number f ≡ number g = omega arith in sym (fault_of_number f) ∙ ap fault_of e ∙ fault_of_number g
+one_refusal f g a b = grind arith
 
 -- two answers to one call are both accepted or refused alike; what is made of two accepted ones, and Z, is left to show
 module _ {T U Z : Type 0} (Fits : QuestionFault → Type 0) {Done Other : T → Type 0} {Kept Stays : Type 0} (value : T → U) where
@@ -73,20 +50,12 @@ module _ {T U Z : Type 0} (Fits : QuestionFault → Type 0) {Done Other : T → 
   agree both kept (Err f) (Ok b) x y = absurd (y.0 f x.0)
   agree both kept (Err f) (Err g) x y = (ap Err (one_refusal f g (x.1 g y.0) (y.1 f x.0)), kept x.2 y.2)
 
-accepted_all : {T : Type 0} (r : Result T QuestionFault) → accepted (λ x. x) r ≡ r
-accepted_all (Ok x) = refl
-accepted_all (Err f) = refl
+accepted_whole : {T : Type 0} (r q : Result T QuestionFault) → accepted (λ x. x) r ≡ accepted (λ x. x) q → r ≡ q
+accepted_whole r q e = grind arith
 
 module _ {Q : Type 0} (m : Model Q) (D : Drawing) (w : Within D) (t : ℕ → Option m.group.Element) where
   surveyed_table : (old new other : ℕ → Option ℕ) (a b : ℕ × ℕ × ℕ × ℕ) → Surveyed m D t old a new → Surveyed m D t old b other → (k : ℕ) → new k ≡ other k
-  surveyed_table old new other a b x y k = ⊎_elim
-      (λ (lt : k < last_number).
-      let c = x.classes k lt in
-      let d = y.classes k lt in
-      let one = exactly_one_class D w (read_set t) (suc k) in
-      c.2 ∙ ap (λ i. Some (byte i)) (one.2 c.0 c.1 ∙ sym (one.2 d.0 d.1)) ∙ sym d.2)
-      (λ (past : last_number ≤ k). x.kept k past ∙ sym (y.kept k past))
-      (cases_lt k last_number)
+  surveyed_table old new other a b x y k = grind (arith, cases_lt k last_number, (exactly_one_class D w (read_set t) (suc k)).2, x.classes k, y.classes k, x.kept k, y.kept k)
 
   surveyed_counts : (old new other : ℕ → Option ℕ) (a b : ℕ × ℕ × ℕ × ℕ) → Surveyed m D t old a new → Surveyed m D t old b other → a ≡ b
   surveyed_counts old new other a b x y = λ i. (
@@ -101,23 +70,14 @@ module _ {Q : Type 0} (m : Model Q) (D : Drawing) (w : Within D) (t : ℕ → Op
 
   valued_same : (n : ℕ) (a b : Option Q) → Valued m D t n a → Valued m D t n b → meant m a ≡ meant m b
   valued_same n (Some a) (Some b) (by_reading _ e) (by_reading _ f) = sym e ∙ f
-  valued_same n (Some a) (Some b) (by_reading _ e) (by_cut_sum o _) = absurd (true≢false (sym (ap is_some e) ∙ o.0.1))
-  valued_same n (Some a) (Some b) (by_cut_sum o _) (by_reading _ e) = absurd (true≢false (sym (ap is_some e) ∙ o.0.1))
+  valued_same n (Some a) (Some b) (by_reading _ e) (by_cut_sum o _) = grind arith
+  valued_same n (Some a) (Some b) (by_cut_sum o _) (by_reading _ e) = grind arith
   valued_same n (Some a) (Some b) (by_cut_sum _ c) (by_cut_sum _ d) = ap Some (cut_sum_only m.group D w t n (m.means a) (m.means b) c d)
-  valued_same n (Some a) None (by_reading _ e) (no_amount u) = absurd (true≢false (sym (ap is_some e) ∙ u.0.1))
+  valued_same n (Some a) None (by_reading _ e) (no_amount u) = grind arith
   valued_same n (Some a) None (by_cut_sum o _) (no_amount u) = absurd (o.1 u.1)
-  valued_same n None (Some b) (no_amount u) (by_reading _ e) = absurd (true≢false (sym (ap is_some e) ∙ u.0.1))
+  valued_same n None (Some b) (no_amount u) (by_reading _ e) = grind arith
   valued_same n None (Some b) (no_amount u) (by_cut_sum o _) = absurd (o.1 u.1)
-  valued_same n None None (no_amount _) (no_amount _) = refl
-
-  -- whether unread streams join a unit to a place is decided
-  joined_or_not : (v k : ℕ) → v ≤ D.units → Joined D (Unread D (read_set t)) v k ⊎ ¬ Joined D (Unread D (read_set t)) v k
-  joined_or_not v k lv = ⊎_elim
-      (λ (lt : k < suc D.units).
-      let p = part_is D (read_set t) D.size (above_size D) w v lv k (omega arith) in
-      ⊎_elim (λ i. inl (p.0 i)) (λ o. inr (λ j. true≢false (sym (p.1 j) ∙ o))) (cases_Bool (part D (read_set t) D.size v k)))
-      (λ (past : suc D.units ≤ k). inr (λ j. let l : k ≤ D.units = joined_within (ends_within D w (Unread D (read_set t)) (λ _ u. u.0)) lv j in omega arith))
-      (cases_lt k (suc D.units))
+  valued_same n None None _ _ = refl
 
   module _ (old new other : ℕ → Option ℕ) (a b : Q) (x : Disputed m D t old a new) (y : Disputed m D t old b other) where
     one_unit : x.lowest ≡ y.lowest
@@ -126,33 +86,33 @@ module _ {Q : Type 0} (m : Model Q) (D : Drawing) (w : Within D) (t : ℕ → Op
     disputed_net : m.means a ≡ m.means b
     disputed_net =
         x.net
-        ∙ part_net m.group D w (Unread D (read_set t)) (readings m.group t) y.lowest x.part y.part
-        (subst (λ v. Part D (Unread D (read_set t)) v x.part) one_unit x.in_dispute.part) y.in_dispute.part
+        ∙ part_net m.group D w (Unread D (read_set t)) (readings m.group t) y.lowest x.part y.part (rw one_unit at x.in_dispute.part) y.in_dispute.part
         ∙ sym y.net
 
+    -- whether unread streams join the unit to a place is decided
+    joined_or_not : (k : ℕ) → Joined D (Unread D (read_set t)) x.lowest k ⊎ ¬ Joined D (Unread D (read_set t)) x.lowest k
+    joined_or_not k = ⊎_elim
+        (λ lt. grind (arith, x.in_dispute.part k))
+        (λ past. inr (λ j. let l = joined_within (ends_within D w (Unread D (read_set t)) (λ _ u. u.0)) x.in_dispute.unit j in omega arith))
+        (cases_lt k (suc D.units))
+
     disputed_table : (k : ℕ) → new k ≡ other k
-    disputed_table k = ⊎_elim
-        (λ (lt : k < unit_places). ⊎_elim
-        (λ j. x.marked k lt j ∙ sym (y.marked k lt (subst (λ v. Joined D (Unread D (read_set t)) v k) one_unit j)))
-        (λ off. x.unmarked k lt off ∙ sym (y.unmarked k lt (λ j. off (subst (λ v. Joined D (Unread D (read_set t)) v k) (sym one_unit) j))))
-        (joined_or_not x.lowest k x.in_dispute.unit))
-        (λ (past : unit_places ≤ k). x.kept k past ∙ sym (y.kept k past))
-        (cases_lt k unit_places)
+    disputed_table k = grind (arith, one_unit, joined_or_not k, cases_lt k unit_places, x.marked k, y.marked k, x.unmarked k, y.unmarked k, x.kept k, y.kept k)
 
 pub survey_answers_agree : {Q : Type 0} (m : Model Q) → SurveyAnswersAgree m
 survey_answers_agree m D w t places old new other r q x y =
-    let a = agree (SurveyFits m D t places) (λ counts. counts) (λ a b c d. (surveyed_counts m D w t old new other a b c d, surveyed_table m D w t old new other a b c d)) (λ c d k. ap (λ table. table k) (c ∙ sym d)) r q x y in
-    (sym (accepted_all r) ∙ a.0 ∙ accepted_all q, a.1)
+    let a = agree (SurveyFits m D t places) (λ x. x) (λ a b c d. (surveyed_counts m D w t old new other a b c d, surveyed_table m D w t old new other a b c d)) (λ c d k. ap (λ table. table k) (c ∙ sym d)) r q x y in
+    (accepted_whole r q a.0, a.1)
 
 pub value_answers_agree : {Q : Type 0} (m : Model Q) → ValueAnswersAgree m
 value_answers_agree m D w t n r q x y = (agree (ValueFits m D t n) (meant m) (λ a b c d. (valued_same m D w t n a b c.1 d.1, tt {0})) (λ _ _. tt {0}) r q x y).0
 
 pub rival_answers_agree : {Q : Type 0} (m : Model Q) → RivalAnswersAgree m
 rival_answers_agree m D t n first old_first second old_second r q new_first new_second other_first other_second x y =
-    let a = agree (RivalFits m D t n first second) (λ _. tt)
+    let a = agree (RivalFits m D t n first second) (λ x. x)
     (λ _ _ c d. (refl, λ k out. (c.first.kept k out ∙ sym (d.first.kept k out), c.second.kept k out ∙ sym (d.second.kept k out))))
     (λ c d k _. (ap (λ table. table k) (c.0 ∙ sym d.0), ap (λ table. table k) (c.1 ∙ sym d.1))) r q x y in
-    (sym (accepted_all r) ∙ a.0 ∙ accepted_all q, a.1)
+    (accepted_whole r q a.0, a.1)
 
 pub dispute_answers_agree : {Q : Type 0} (m : Model Q) → DisputeAnswersAgree m
 dispute_answers_agree m D w t places old new other r q x y =

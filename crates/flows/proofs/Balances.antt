@@ -1,5 +1,5 @@
 -- A balanced flow has no net amount over any set of places. Assumes nothing.
-use Rattle.std.proofs.Common.{◌≡◌, ℕ, zero, suc, ◌≤◌, Bool, true, false, not, ◌&&◌, sym, refl, ap, ◌∙◌, ap₂, inl, inr, ⊎_elim, arith}
+use Rattle.std.proofs.Common.{◌≡◌, ℕ, zero, suc, ◌≤◌, Bool, true, false, not, ◌&&◌, sym, refl, ◌∙◌, ap₂, inl, inr, ⊎_elim, arith}
 use Rattle.std.proofs.lemmas.Bool.{cases_Bool, and_left}
 use Rattle.quantity.specs.Group.{Group}
 use Rattle.flows.specs.Drawings.{Drawing, InUse, Within}
@@ -19,7 +19,6 @@ module _ (G : Group) (D : Drawing) (within : Within D) where
   -- where each part without place 0 has net zero, so has each set that no stream of S crosses: it is made of whole parts
   module _ (S : ℕ → Type 0) (used : (k : ℕ) → S k → InUse D k) (own : ℕ → ℕ → Bool) (own_is : (v : ℕ) → v ≤ D.units → Part D S v (own v))
       (r : ℕ → Element) (none : (v : ℕ) → v ≤ D.units → own v 0 ≡ false → net G D (own v) r ≡ G.zero) where
-
     -- a set with places below m alone is taken apart, one part at a time
     strip : (m : ℕ) → m ≤ suc D.units → (C : ℕ → Bool) → Uncrossed D S C → C 0 ≡ false → ((w : ℕ) → w ≤ D.units → m ≤ w → C w ≡ false) → net G D C r ≡ G.zero
     strip zero le C c o low = net_none G D C r (λ k us. inr (low (D.from k) (within.from k us) (omega arith) ∙ sym (low (D.to k) (within.to k us) (omega arith))))
