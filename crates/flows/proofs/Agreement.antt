@@ -58,12 +58,7 @@ module _ {Q : Type 0} (m : Model Q) (D : Drawing) (w : Within D) (t : ℕ → Op
   surveyed_table old new other a b x y k = grind (arith, cases_lt k last_number, (exactly_one_class D w (read_set t) (suc k)).2, x.classes k, y.classes k, x.kept k, y.kept k)
 
   surveyed_counts : (old new other : ℕ → Option ℕ) (a b : ℕ × ℕ × ℕ × ℕ) → Surveyed m D t old a new → Surveyed m D t old b other → a ≡ b
-  surveyed_counts old new other a b x y = λ i. (
-    (x.observable ∙ alike 1 ∙ sym y.observable) i,
-    (x.unobservable ∙ alike 2 ∙ sym y.unobservable) i,
-    (x.redundant ∙ alike 3 ∙ sym y.redundant) i,
-    (x.just_measured ∙ alike 4 ∙ sym y.just_measured) i,
-  )
+  surveyed_counts old new other a b x y = grind (arith, x, y, alike 1, alike 2, alike 3, alike 4)
     where
       alike : (c : ℕ) → count c new last_number ≡ count c other last_number
       alike c = count_is c new last_number ∙ how_many_same last_number _ _ (λ k _. ap (λ o. holds o c) (surveyed_table old new other a b x y k)) ∙ sym (count_is c other last_number)

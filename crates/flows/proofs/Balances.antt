@@ -8,13 +8,12 @@ use Rattle.flows.specs.Flows.{net, Balanced}
 use Rattle.flows.specs.Labels.{Below}
 use Rattle.flows.specs.Parts.{here, Part, Uncrossed}
 use Rattle.flows.proofs.Filling.{fill_start}
-use Rattle.flows.proofs.Groups.{made_up}
 use Rattle.flows.proofs.Joins.{joined_uncrossed, part_uncrossed}
 use Rattle.flows.proofs.Merging.{labels_start, labels_part}
-use Rattle.flows.proofs.Nets.{net_same, net_none, net_plus, net_less, alone, alone_from_balanced, balanced_from_nets}
+use Rattle.flows.proofs.Nets.{net_none, net_plus, net_less, alone, alone_from_balanced, balanced_from_nets}
 
 module _ (G : Group) (D : Drawing) (within : Within D) where
-  open G use {Element, plus, minus, unit}
+  open G use {Element, plus, minus, unit, inverse}
 
   -- where each part without place 0 has net zero, so has each set that no stream of S crosses: it is made of whole parts
   module _ (S : ℕ → Type 0) (used : (k : ℕ) → S k → InUse D k) (own : ℕ → ℕ → Bool) (own_is : (v : ℕ) → v ≤ D.units → Part D S v (own v))
@@ -34,12 +33,9 @@ module _ (G : Group) (D : Drawing) (within : Within D) where
         has ih i =
             sym (net_less G D (own m) C r (λ k us. (inside i (D.from k) (within.from k us), inside i (D.to k) (within.to k us))))
             ∙ ap₂ plus
-            (ih (λ w. C w && not (own m w)) (λ k s. ap₂ (λ a b. a && not b) (c k s) (whole k s)) (and_left (C 0) _ o) (λ w lw b. grind (arith, low w, (own_is m lm m lm).1 here)))
+            (ih (λ w. C w && not (own m w)) (λ k s. ap₂ (λ a b. a && not b) (c k s) (part_uncrossed within S used m (own m) (own_is m lm) k s)) (and_left (C 0) _ o) (λ w lw b. grind (arith, low w, (own_is m lm m lm).1 here)))
             (none m lm (grind (arith, inside i 0)))
             ∙ unit _
-          where
-            whole : Uncrossed D S (own m)
-            whole = part_uncrossed S (λ k s. (within.from k (used k s), within.to k (used k s))) m (own m) (own_is m lm)
 
     pub parts_fillable : Fillable G D S r
     parts_fillable = fill_start G D S r (λ C c o. strip (suc D.units) (omega arith) C c o (λ w lw b. absurd (omega arith)))
@@ -54,12 +50,5 @@ module _ (G : Group) (D : Drawing) (within : Within D) where
   balanced_plus f g bf bg = balanced_from_nets G D _ (λ C. net_plus G D C f g ∙ ap₂ plus (balanced_net f bf C) (balanced_net g bg C) ∙ unit _)
 
   pub balanced_difference : (f g : ℕ → Element) → Balanced G D f → Balanced G D g → Balanced G D (λ k. plus (f k) (minus (g k)))
-  balanced_difference f g bf bg = balanced_from_nets G D h (λ C.
-      sym (unit (net G D C h))
-      ∙ ap₂ plus (sym (balanced_net g bg C)) refl
-      ∙ sym (net_plus G D C g h)
-      ∙ net_same G D C (λ k. plus (g k) (h k)) f (λ k _. inl (made_up G (f k) (g k)))
-      ∙ balanced_net f bf C)
-    where
-      h : ℕ → Element
-      h k = plus (f k) (minus (g k))
+  balanced_difference f g bf bg = balanced_plus f (λ k. minus (g k)) bf (balanced_from_nets G D _ (λ C.
+      grind (arith, unit, balanced_net g bg C, net_plus G D C g (λ k. minus (g k)), net_none G D C (λ k. plus (g k) (minus (g k))) (λ k _. inl (inverse (g k))))))

@@ -9,7 +9,7 @@ use Rattle.flows.specs.Flows.{pick, net, Balanced}
 use Rattle.flows.specs.Parts.{Unread, Others, here, Part, Linked}
 use Rattle.flows.specs.Theorems.{ZeroAt, AnythingAt}
 use Rattle.flows.proofs.Balances.{balanced_net}
-use Rattle.flows.proofs.Decisions.{above_size, from_others, unread_but_used, side_is}
+use Rattle.flows.proofs.Decisions.{above_size, side_is}
 use Rattle.flows.proofs.Filling.{bump, bump_other, bump_same, net_bump, flow_exists}
 use Rattle.flows.proofs.Groups.{unit_r, minus_zero, negative_only}
 use Rattle.flows.proofs.Joins.{joined_uncrossed, part_uncrossed}
@@ -40,10 +40,7 @@ module _ (G : Group) (D : Drawing) (within : Within D) where
         ((p (D.from n) (within.from n us)).1 here)
         (false_from_ne_true (C (D.to n)) (λ i. off ((p (D.to n) (within.to n us)).0 i)))
         f r b free
-        (λ k u d. grind (arith, same k u d, uncrossed k))
-      where
-        uncrossed : (k : ℕ) → Others (Unread D S) n k → C (D.from k) ≡ C (D.to k)
-        uncrossed = part_uncrossed (Others (Unread D S) n) (ends_within D within (Others (Unread D S) n) (λ _ s. s.0.0)) (D.from n) C p
+        (λ k u d. grind (arith, same k u d, part_uncrossed within (Others (Unread D S) n) (λ _ s. s.0.0) (D.from n) C p k))
 
     pub zero_at : ¬ Linked D S n → ZeroAt G D S n
     zero_at off f b z =
@@ -57,7 +54,7 @@ module _ (G : Group) (D : Drawing) (within : Within D) where
         r k = pick G (n == k) x
 
         s : (f : ℕ → Element) × Balanced G D f × ((k : ℕ) → unread_but D S n k ≡ false → f k ≡ r k)
-        s = flow_exists G D within (unread_but D S n) (λ k _. unread_but_used D S n k) r (λ C c. net_none G D C r (λ k _. ⊎_elim
-            (λ (q : n ≡ k). inr (ap (λ i. C (D.from i)) (sym q) ∙ joined_uncrossed C (λ k o. c k (from_others D S D.size (above_size D) n k o)) j ∙ ap (λ i. C (D.to i)) q))
+        s = flow_exists G D within (unread_but D S n) (λ k _ e. grind arith) r (λ C c. net_none G D C r (λ k _. ⊎_elim
+            (λ (q : n ≡ k). inr (ap (λ i. C (D.from i)) (sym q) ∙ joined_uncrossed C (λ k o. c k (grind (arith, nat_tests))) j ∙ ap (λ i. C (D.to i)) q))
             (λ (d : n ≡ k → ⊥). inl (grind (arith, nat_tests)))
             (cases_eq n k)))

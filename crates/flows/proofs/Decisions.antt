@@ -8,7 +8,7 @@ use Rattle.flows.specs.Decisions.{Above, unread, unread_but, label, linked, clas
 use Rattle.flows.specs.declared.class.Class.{Class}
 use Rattle.flows.specs.Drawings.{Drawing, InUse, Within}
 use Rattle.flows.specs.Flows.{total_below, total, net, net_below}
-use Rattle.flows.specs.Labels.{Below, Labels}
+use Rattle.flows.specs.Labels.{Labels}
 use Rattle.flows.specs.Parts.{Unread, Others, Part, Linked, FromSide}
 use Rattle.flows.proofs.Computed.{label_is}
 use Rattle.flows.proofs.Joins.{joined_map}
@@ -25,32 +25,14 @@ pub fails : (b : Bool) → ¬ (b ≡ true) → b ≡ false
 fails = false_from_ne_true
 
 module _ (D : Drawing) (R : ℕ → Bool) where
-  pub unread_used : (k : ℕ) → unread D R k ≡ true → D.used k ≡ true
-  unread_used k e = grind arith
-
-  pub unread_but_used : (n k : ℕ) → unread_but D R n k ≡ true → D.used k ≡ true
-  unread_but_used n k e = grind arith
-
   module _ (m : ℕ) (above : Above D m) where
-    pub to_unread : (k : ℕ) → Below m (unread D R) k → Unread D R k
-    to_unread k b = grind arith
-
-    pub from_unread : (k : ℕ) → Unread D R k → Below m (unread D R) k
-    from_unread k u = grind arith
-
-    pub to_others : (n k : ℕ) → Below m (unread_but D R n) k → Others (Unread D R) n k
-    to_others n k b = grind (arith, nat_tests)
-
-    pub from_others : (n k : ℕ) → Others (Unread D R) n k → Below m (unread_but D R n) k
-    from_others n k o = grind (arith, nat_tests)
-
     module _ (within : Within D) where
       others_labels : (n : ℕ) → Labels D (Others (Unread D R) n) (label D (unread_but D R n) m)
-      others_labels n = labels_map D (label D (unread_but D R n) m) (to_others n) (from_others n) (label_is D (unread_but D R n) within (λ k _. unread_but_used n k) m above.size)
+      others_labels n = labels_map D (label D (unread_but D R n) m) (λ k b. grind (arith, nat_tests)) (λ k o. grind (arith, nat_tests)) (label_is D (unread_but D R n) within (λ k _ e. grind arith) m above.size)
 
       pub part_is : (v : ℕ) → v ≤ D.units → Part D (Unread D R) v (part D R m v)
       part_is = labels_part D (Unread D R) (label D (unread D R) m)
-          (labels_map D (label D (unread D R) m) to_unread from_unread (label_is D (unread D R) within (λ k _. unread_used k) m above.size))
+          (labels_map D (label D (unread D R) m) (λ k b. grind arith) (λ k u. grind arith) (label_is D (unread D R) within (λ k _ e. grind arith) m above.size))
 
       pub side_is : (n : ℕ) → InUse D n → FromSide D R n (from_side D R m n)
       side_is n us = labels_part D (Others (Unread D R) n) (label D (unread_but D R n) m) (others_labels n) (D.from n) (within.from n us)

@@ -120,14 +120,13 @@ module _ (G : Group) (D : Drawing) where
 module _ (G : Group) (D : Drawing) (within : Within D) (e : ℕ → Bool) (used : (k : ℕ) → k < D.size → e k ≡ true → D.used k ≡ true) where
   open G use {Element, minus}
 
-  Filled : (ℕ → Element) → Type 0
+  abbrev pub Filled : (ℕ → Element) → Type 0
   Filled r = (f : ℕ → Element) × Balanced G D f × ((k : ℕ) → e k ≡ false → f k ≡ r k)
 
   below_or_last : (n k : ℕ) → Below (suc n) e k → Below n e k ⊎ (k ≡ n)
   below_or_last n k b = grind arith
 
   fill_below : (n : ℕ) → n ≤ D.size → (r : ℕ → Element) → Fillable G D (Below n e) r → Filled r
-  unfolding Filled
   fill_below zero le r h = (r, fill_done G D (Below 0 e) r (λ k b. omega (arith, b.0)) h, λ k _. refl)
   fill_below (suc n) le r h = ⊎_elim (λ i. take i (fill_below n (omega arith) (bump G D r n x))) (λ o. fill_below n (omega arith) r (skip o)) (cases_Bool (e n))
     where
@@ -147,6 +146,5 @@ module _ (G : Group) (D : Drawing) (within : Within D) (e : ℕ → Bool) (used 
           let s = ih (fill_bump G D (Below (suc n) e) (Below n e) n (below_or_last n) us r h B side) in
           (s.0, s.1, λ k o. s.2 k o ∙ bump_other G D r n x k (grind arith))
 
-  pub flow_exists : (r : ℕ → Element) → Fillable G D (Below D.size e) r → (f : ℕ → Element) × Balanced G D f × ((k : ℕ) → e k ≡ false → f k ≡ r k)
-  unfolding Filled
-  flow_exists r h = fill_below D.size (omega arith) r h
+  pub flow_exists : (r : ℕ → Element) → Fillable G D (Below D.size e) r → Filled r
+  flow_exists = fill_below D.size (omega arith)

@@ -29,16 +29,11 @@ module _ (G : Group) (D : Drawing) where
   net_is C f = net_below_is D.size C f
 
   -- two nets are equal where each stream in use crosses alike
-  net_by_streams : (B C : ℕ → Bool) (f g : ℕ → Element)
+  pub net_by_streams : (B C : ℕ → Bool) (f g : ℕ → Element)
       → ((k : ℕ) → InUse D k → plus (pick G (B (D.from k)) (f k)) (minus (pick G (B (D.to k)) (f k))) ≡ plus (pick G (C (D.from k)) (g k)) (minus (pick G (C (D.to k)) (g k))))
       → net G D B f ≡ net G D C g
   unfolding crossing
   net_by_streams B C f g h = net_is B f ∙ sum_same G D.size _ _ (λ k lt. grind (arith, h k)) ∙ sym (net_is C g)
-
-  -- sets that are alike at the ends of streams in use
-  pub net_alike : (B C : ℕ → Bool) (f : ℕ → Element)
-      → ((k : ℕ) → InUse D k → (B (D.from k) ≡ C (D.from k)) × (B (D.to k) ≡ C (D.to k))) → net G D B f ≡ net G D C f
-  net_alike B C f h = net_by_streams B C f f (λ k us. grind (arith, h k us))
 
   -- flows that differ only where C is not crossed
   pub net_same : (C : ℕ → Bool) (f g : ℕ → Element)
@@ -72,8 +67,7 @@ module _ (G : Group) (D : Drawing) where
 
   -- a set and its complement
   pub net_from_not : (C : ℕ → Bool) (f : ℕ → Element) → net G D (λ w. not (C w)) f ≡ G.zero → net G D C f ≡ G.zero
-  net_from_not C f h =
-      sym (unit _) ∙ ap₂ plus (sym h) refl ∙ net_less C (λ _. true) f (λ _ _. (λ _. refl, λ _. refl)) ∙ net_none (λ _. true) f (λ _ _. inr refl)
+  net_from_not C f h = grind (arith, unit, net_less C (λ _. true) f (λ _ _. (λ _. refl, λ _. refl)), net_none (λ _. true) f (λ _ _. inr refl))
 
   net_alone : (f : ℕ → Element) (v : ℕ) → net G D (alone v) f ≡ plus (departing G D f v) (minus (arriving G D f v))
   unfolding crossing total

@@ -1,5 +1,5 @@
 -- The theorems about flows. Assumes nothing.
-use Rattle.std.proofs.Common.{◌≡◌, ℕ, Bool, true, not, ◌&&◌, ◌⊎◌, ◌==◌, Option, sym, refl, ap, ◌∙◌, inl, inr, ⊎_elim, arith}
+use Rattle.std.proofs.Common.{◌≡◌, ℕ, Bool, not, ◌&&◌, ◌⊎◌, ◌==◌, Option, sym, refl, ap, ◌∙◌, inl, inr, ⊎_elim, arith}
 use Rattle.std.proofs.lemmas.Bool.{cases_Bool, cases_lt, iff_false}
 use Rattle.std.proofs.lemmas.Bool.Decides.{nat_tests}
 use Rattle.quantity.specs.Group.{Group}
@@ -8,28 +8,18 @@ use Rattle.flows.specs.Decisions.{Above, unread, linked, from_side, class, cut_s
 use Rattle.flows.specs.declared.class.Class.TheVariants.{OutOfUse}
 use Rattle.flows.specs.Drawings.{Drawing, InUse, Within, Between}
 use Rattle.flows.specs.Labels.{Below}
-use Rattle.flows.specs.Flows.{net, Agrees, Possible, PossibleBut, SomeFlow, read_set, readings}
+use Rattle.flows.specs.Flows.{net, Possible, PossibleBut, SomeFlow, read_set, readings}
 use Rattle.flows.specs.Parts.{Unread, Others, Joined, here, along, Part, Uncrossed, Linked}
 use Rattle.flows.specs.Theorems.{BalancedFlowsHaveNoNet, SomeFlowExactlyIfConsistent, SomeConflict, ConflictExcludesFlows, FlowOrConflict, ConflictExactlyIfNoFlow, ZeroOrAnything, TwoSides, ObservableCarriesItsCutSum, RedundantCarriesOneAmount, UnobservableCarriesAnything, JustMeasuredCarriesAnything, ExactlyOneClass}
 use Rattle.flows.proofs.Balances.{balanced_net, balanced_plus, balanced_difference}
-use Rattle.flows.proofs.Cuts.{ends_within, side_amount, zero_at, anything_at}
-use Rattle.flows.proofs.Decisions.{above_size, from_unread, unread_used, side_is, linked_decides, class_decides, net_short, one_part_exactly_if_linked}
+use Rattle.flows.proofs.Cuts.{side_amount, zero_at, anything_at}
+use Rattle.flows.proofs.Decisions.{above_size, side_is, linked_decides, class_decides, net_short, one_part_exactly_if_linked}
 use Rattle.flows.proofs.PartNets.{fill_consistent, not_both, not_neither, one_of_both}
 use Rattle.flows.proofs.Filling.{fill_skip, flow_exists}
 use Rattle.flows.proofs.Groups.{made_up, minus_difference, same_from_difference, unit_r}
 use Rattle.flows.proofs.Joins.{joined_map, joined_trans, joined_sym, joined_ends, part_uncrossed}
 use Rattle.flows.proofs.Nets.{net_same}
 use Rattle.flows.proofs.Paths.{on_a_path_exactly_if_linked}
-
-module _ (G : Group) (D : Drawing) (t : ℕ → Option G.Element) where
-  open G use {Element}
-
-  agrees_readings : (f : ℕ → Element) → Agrees G D t f → (k : ℕ) → InUse D k → read_set t k ≡ true → readings G t k ≡ f k
-  agrees_readings f a k us i = grind (arith, a k us)
-
-  -- over a set that no unread stream crosses, a flow that agrees and the readings have one net amount
-  net_readings : (f : ℕ → Element) → Agrees G D t f → (C : ℕ → Bool) → Uncrossed D (Unread D (read_set t)) C → net_reading G D t C ≡ net G D C f
-  net_readings f a C c = net_same G D C (readings G t) f (λ k us. grind (arith, agrees_readings f a k us, c k))
 
 -- the computed cut sum is the cut sum
 pub cut_sum_is : (G : Group) (D : Drawing) (t : ℕ → Option G.Element) (m : ℕ) → Above D m → Within D → (n : ℕ) → InUse D n → (x : G.Element) → x ≡ cut_sum G D t m n → CutSum G D t n x
@@ -47,10 +37,10 @@ module _ (G : Group) where
   balanced_flows_have_no_net D w f b C = balanced_net G D w f b C
 
   flow_net : (D : Drawing) → Within D → (t : ℕ → Option Element) → SomeFlow G D t → (C : ℕ → Bool) → Uncrossed D (Unread D (read_set t)) C → net_reading G D t C ≡ G.zero
-  flow_net D w t (f, p) C c = net_readings G D t f p.agrees C c ∙ balanced_net G D w f p.balanced C
+  flow_net D w t (f, p) C c = net_same G D C (readings G t) f (λ k us. grind (arith, p.agrees k us, c k)) ∙ balanced_net G D w f p.balanced C
 
   parts_uncrossed : (D : Drawing) → Within D → (t : ℕ → Option Element) (v : ℕ) (C : ℕ → Bool) → Part D (Unread D (read_set t)) v C → Uncrossed D (Unread D (read_set t)) C
-  parts_uncrossed D w t v C p = part_uncrossed (Unread D (read_set t)) (ends_within D w (Unread D (read_set t)) (λ _ u. u.0)) v C p
+  parts_uncrossed D w t = part_uncrossed w (Unread D (read_set t)) (λ _ u. u.0)
 
   pub some_flow_exactly_if_consistent : SomeFlowExactlyIfConsistent G
   some_flow_exactly_if_consistent D w t = (λ s v _ C p _. flow_net D w t s C (parts_uncrossed D w t v C p), solved)
@@ -60,8 +50,8 @@ module _ (G : Group) where
 
       solved : Consistent G D t → SomeFlow G D t
       solved h =
-          let s = flow_exists G D w (unread D R) (λ k _. unread_used D R k) (readings G t)
-          (fill_skip G D (Unread D R) (Below D.size (unread D R)) (from_unread D R D.size (above_size D)) (readings G t) (fill_consistent G D w t h)) in
+          let s = flow_exists G D w (unread D R) (λ k _ e. grind arith) (readings G t)
+          (fill_skip G D (Unread D R) (Below D.size (unread D R)) (λ k u. grind arith) (readings G t) (fill_consistent G D w t h)) in
           (s.0, record { balanced = s.1; agrees = λ k us x e. grind (arith, s.2 k) })
 
   conflict_excludes : (D : Drawing) → Within D → (t : ℕ → Option Element) → SomeConflict G D t → ¬ SomeFlow G D t
@@ -96,13 +86,13 @@ module _ (G : Group) where
 
   pub observable_carries_its_cut_sum : ObservableCarriesItsCutSum G
   unfolding net
-  observable_carries_its_cut_sum D w t n h = ((_, record { side = from_side D (read_set t) D.size n; from_side = side_is D (read_set t) D.size (above_size D) w n h.0.0; sum = refl }), carried)
+  observable_carries_its_cut_sum D w t n h = ((_, cut_sum_is G D t D.size (above_size D) w n h.0.0 _ refl), carried)
     where
       carried : (x : Element) → CutSum G D t n x → (f : ℕ → Element) → Possible G D t f → f n ≡ x
       carried x c f p =
           side_amount G D w (read_set t) n h.0.0 c.side c.from_side (λ j. h.1 ((on_a_path_exactly_if_linked D (read_set t) n h.0).1 j)) f (readings G t) p.balanced
           (grind arith)
-          (λ k us _ i. agrees_readings G D t f p.agrees k us i)
+          (λ k us _ i. grind (arith, p.agrees k us))
           ∙ minus_difference G _ _ ∙ sym c.sum
 
   -- by the difference of two flows, from what is said of flows that are zero on the other read streams
@@ -111,20 +101,14 @@ module _ (G : Group) where
     abbrev S : ℕ → Bool
     S k = read_set t k && not (k == n)
 
-    linked_off : Linked D S n → Linked D (read_set t) n
-    linked_off j = joined_map (λ k o. grind (arith, nat_tests)) j
-
-    linked_on : Linked D (read_set t) n → Linked D S n
-    linked_on j = joined_map (λ k o. grind (arith, nat_tests)) j
-
     one_amount : ¬ Linked D (read_set t) n → (f g : ℕ → Element) → PossibleBut G D n t f → PossibleBut G D n t g → f n ≡ g n
     one_amount off f g p q = same_from_difference G (f n) (g n) (
-        zero_at G D w S n us (λ j. off (linked_off j)) (λ k. plus (f k) (minus (g k))) (balanced_difference G D w f g p.balanced q.balanced)
+        zero_at G D w S n us (λ j. off (joined_map (λ k o. grind (arith, nat_tests)) j)) (λ k. plus (f k) (minus (g k))) (balanced_difference G D w f g p.balanced q.balanced)
         (λ k u i. grind (arith, nat_tests, G.inverse, p.agrees k u, q.agrees k u)))
 
     any_amount : Linked D (read_set t) n → (f : ℕ → Element) → PossibleBut G D n t f → (x : Element) → (g : ℕ → Element) × PossibleBut G D n t g × (g n ≡ x)
     any_amount j f p x =
-        let d = anything_at G D w S n us (grind (arith, nat_tests)) (linked_on j) (plus x (minus (f n))) in (
+        let d = anything_at G D w S n us (grind (arith, nat_tests)) (joined_map (λ k o. grind (arith, nat_tests)) j) (plus x (minus (f n))) in (
           λ k. plus (f k) (d.0 k),
           record {
             balanced = balanced_plus G D w f d.0 p.balanced d.1;
