@@ -21,21 +21,18 @@ module _ (G : Group) (D : Drawing) (within : Within D) where
     -- a set with places below m alone is taken apart, one part at a time
     strip : (m : ℕ) → m ≤ suc D.units → (C : ℕ → Bool) → Uncrossed D S C → C 0 ≡ false → ((w : ℕ) → w ≤ D.units → m ≤ w → C w ≡ false) → net G D C r ≡ G.zero
     strip zero le C c o low = net_none G D C r (λ k us. inr (low (D.from k) (within.from k us) (omega arith) ∙ sym (low (D.to k) (within.to k us) (omega arith))))
-    strip (suc m) le C c o low = ⊎_elim (has (strip m (omega arith))) (λ q. strip m (omega arith) C c o (λ w lw b. grind (arith, low w))) (cases_Bool (C m))
-      where
-        lm : m ≤ D.units
-        lm = omega arith
-
-        inside : C m ≡ true → (w : ℕ) → w ≤ D.units → own m w ≡ true → C w ≡ true
-        inside i w lw b = sym (joined_uncrossed C c ((own_is m lm w lw).0 b)) ∙ i
-
-        has : ((C : ℕ → Bool) → Uncrossed D S C → C 0 ≡ false → ((w : ℕ) → w ≤ D.units → m ≤ w → C w ≡ false) → net G D C r ≡ G.zero) → C m ≡ true → net G D C r ≡ G.zero
-        has ih i =
-            sym (net_less G D (own m) C r (λ k us. (inside i (D.from k) (within.from k us), inside i (D.to k) (within.to k us))))
-            ∙ ap₂ plus
-            (ih (λ w. C w && not (own m w)) (λ k s. ap₂ (λ a b. a && not b) (c k s) (part_uncrossed within S used m (own m) (own_is m lm) k s)) (and_left (C 0) _ o) (λ w lw b. grind (arith, low w, (own_is m lm m lm).1 here)))
-            (none m lm (grind (arith, inside i 0)))
-            ∙ unit _
+    strip (suc m) le C c o low = ⊎_elim
+        (λ i.
+        let lm : m ≤ D.units = omega arith in
+        let inside : (w : ℕ) → w ≤ D.units → own m w ≡ true → C w ≡ true = λ w lw b. sym (joined_uncrossed C c ((own_is m lm w lw).0 b)) ∙ i in
+        sym (net_less G D (own m) C r (λ k us. (inside (D.from k) (within.from k us), inside (D.to k) (within.to k us))))
+        ∙ ap₂ plus
+        (strip m (omega arith) (λ w. C w && not (own m w)) (λ k s. grind (arith, c k s, part_uncrossed within S used m (own m) (own_is m lm) k s)) (and_left (C 0) _ o)
+        (λ w lw b. grind (arith, low w, (own_is m lm m lm).1 here)))
+        (none m lm (grind (arith, inside 0)))
+        ∙ unit _)
+        (λ q. strip m (omega arith) C c o (λ w lw b. grind (arith, low w)))
+        (cases_Bool (C m))
 
     pub parts_fillable : Fillable G D S r
     parts_fillable = fill_start G D S r (λ C c o. strip (suc D.units) (omega arith) C c o (λ w lw b. absurd (omega arith)))

@@ -1,6 +1,6 @@
 -- What a cut says of the amount of the one stream that crosses it. Assumes nothing.
-use Rattle.std.proofs.Common.{◌≡◌, ℕ, ◌≤◌, Bool, true, false, ◌⊎◌, ◌==◌, sym, refl, ap, ◌∙◌, inl, inr, ⊎_elim, arith}
-use Rattle.std.proofs.lemmas.Bool.{cases_eq, false_from_ne_true}
+use Rattle.std.proofs.Common.{◌≡◌, ℕ, ◌≤◌, Bool, true, false, ◌⊎◌, ◌==◌, sym, refl, ap, ◌∙◌, inl, arith}
+use Rattle.std.proofs.lemmas.Bool.{false_from_ne_true}
 use Rattle.std.proofs.lemmas.Bool.Decides.{nat_tests}
 use Rattle.quantity.specs.Group.{Group}
 use Rattle.flows.specs.Decisions.{unread_but}
@@ -10,7 +10,7 @@ use Rattle.flows.specs.Parts.{Unread, Others, here, Part, Linked}
 use Rattle.flows.specs.Theorems.{ZeroAt, AnythingAt}
 use Rattle.flows.proofs.Balances.{balanced_net}
 use Rattle.flows.proofs.Decisions.{above_size, side_is}
-use Rattle.flows.proofs.Filling.{bump, bump_other, bump_same, net_bump, flow_exists}
+use Rattle.flows.proofs.Filling.{bump, net_bump, flow_exists}
 use Rattle.flows.proofs.Groups.{unit_r, minus_zero, negative_only}
 use Rattle.flows.proofs.Joins.{joined_uncrossed, part_uncrossed}
 use Rattle.flows.proofs.Nets.{net_same, net_none}
@@ -29,7 +29,7 @@ module _ (G : Group) (D : Drawing) (within : Within D) where
       G.comm _ _
       ∙ ap (plus (net G D C r)) (grind (arith, unit_r G, minus_zero G))
       ∙ sym (net_bump G D C r n (f n) us)
-      ∙ net_same G D C (bump G D r n (f n)) f (λ k u. grind (arith, same k u, bump_same G D r n (f n) k, bump_other G D r n (f n) k))
+      ∙ net_same G D C (bump G D r n (f n)) f (λ k u. grind (arith, nat_tests, unit, unit_r G, same k u))
       ∙ balanced_net G D within f b C)
 
   module _ (S : ℕ → Bool) (n : ℕ) (us : InUse D n) where
@@ -48,13 +48,7 @@ module _ (G : Group) (D : Drawing) (within : Within D) where
         ∙ ap minus (net_none G D _ (λ _. G.zero) (λ _ _. inl refl)) ∙ minus_zero G
 
     pub anything_at : S n ≡ false → Linked D S n → AnythingAt G D S n
-    anything_at out j x = (s.0, s.1, (λ k u i. s.2 k (grind arith) ∙ grind (arith, nat_tests)), s.2 n (grind (arith, nat_tests)) ∙ grind (arith, nat_tests))
-      where
-        r : ℕ → Element
-        r k = pick G (n == k) x
-
-        s : (f : ℕ → Element) × Balanced G D f × ((k : ℕ) → unread_but D S n k ≡ false → f k ≡ r k)
-        s = flow_exists G D within (unread_but D S n) (λ k _ e. grind arith) r (λ C c. net_none G D C r (λ k _. ⊎_elim
-            (λ (q : n ≡ k). inr (ap (λ i. C (D.from i)) (sym q) ∙ joined_uncrossed C (λ k o. c k (grind (arith, nat_tests))) j ∙ ap (λ i. C (D.to i)) q))
-            (λ (d : n ≡ k → ⊥). inl (grind (arith, nat_tests)))
-            (cases_eq n k)))
+    anything_at out j x =
+        let s = flow_exists G D within (unread_but D S n) (λ k _ e. grind arith) (λ k. pick G (n == k) x)
+        (λ C c. let flat = joined_uncrossed C (λ k o. c k (grind (arith, nat_tests))) j in net_none G D C _ (λ k _. grind (arith, nat_tests, flat))) in
+        (s.0, s.1, λ k u i. grind (arith, nat_tests, s.2 k), grind (arith, nat_tests, s.2 n))
