@@ -32,11 +32,8 @@ module _ (D : Drawing) (e : ℕ → Bool) where
     joined = λ a b la lb q. let same : a ≡ b = sym (own a la) ∙ q ∙ own b lb in rw same here;
   }
 
-  up : (n k : ℕ) → Below n e k → Below (n + 1) e k
-  up n k b = grind arith
-
   pub labels_skip : (n : ℕ) (label : ℕ → ℕ) → e n ≡ false → Labels D (Below n e) label → Labels D (Below (n + 1) e) label
-  labels_skip n label o h = record { alike = λ k b. h.alike k (grind arith); joined = λ a b la lb q. joined_map (up n) (h.joined a b la lb q) }
+  labels_skip n label o h = record { alike = λ k b. h.alike k (grind arith); joined = λ a b la lb q. joined_map (λ k b. grind arith) (h.joined a b la lb q) }
 
   -- the labels of the two ends of n are lo and hi, either way round, and lo takes the place of hi
   pub labels_merge : Within D → ((k : ℕ) → k < D.size → e k ≡ true → D.used k ≡ true) → (n : ℕ) (label merged : ℕ → ℕ) (lo hi : ℕ) → n < D.size → e n ≡ true
@@ -57,7 +54,7 @@ module _ (D : Drawing) (e : ℕ → Bool) where
       apart a b la lb q = grind (arith, nat_tests, new a la, new b lb)
 
       was : (a b : ℕ) → a ≤ D.units → b ≤ D.units → label a ≡ label b → Joined D (Below (n + 1) e) a b
-      was a b la lb q = joined_map (up n) (h.joined a b la lb q)
+      was a b la lb q = joined_map (λ k b. grind arith) (h.joined a b la lb q)
 
       near : (w : ℕ) → w ≤ D.units → (label w ≡ label (D.from n)) ⊎ (label w ≡ label (D.to n)) → Joined D (Below (n + 1) e) w (D.from n)
       near w lw = ⊎_elim

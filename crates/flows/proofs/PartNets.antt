@@ -1,6 +1,6 @@
 -- Net amounts of parts: a plant is consistent, or a part is in dispute. Assumes nothing.
 use Rattle.std.proofs.Common.{◌≡◌, ℕ, zero, suc, ◌<◌, ◌≤◌, Bool, true, false, ◌⊎◌, Option, sym, ◌∙◌, inl, inr, ⊎_elim, arith}
-use Rattle.std.proofs.lemmas.Bool.{cases_eq, cases_Bool, and_cases, or_cases, or_parts}
+use Rattle.std.proofs.lemmas.Bool.{cases_eq, cases_Bool, or_cases, or_parts}
 use Rattle.std.proofs.lemmas.Bool.Decides.{same_from_decides}
 use Rattle.quantity.specs.Group.{Group}
 use Rattle.flows.specs.Comparisons.{Comparison}
@@ -77,10 +77,7 @@ module _ (G : Group) (D : Drawing) (within : Within D) where
 
       all_undisputed_not : (n : ℕ) → all_undisputed G s D t m n ≡ false → (v : ℕ) × (v < n) × (undisputed G s D t m v ≡ false)
       all_undisputed_not zero h = absurd (grind arith)
-      all_undisputed_not (suc n) h = ⊎_elim
-          (λ i. let r = all_undisputed_not n i in (r.0, let l = r.1 in omega arith, r.2))
-          (λ i. (n, omega arith, i))
-          (and_cases (all_undisputed G s D t m n) (undisputed G s D t m n) h)
+      all_undisputed_not (suc n) h = grind (arith, all_undisputed_not n)
 
       pub consistent_if : consistent G s D t m ≡ true → Consistent G D t
       consistent_if h v lv = undisputed_part v lv (all_undisputed_each (suc D.units) h v (omega arith))

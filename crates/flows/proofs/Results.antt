@@ -3,19 +3,18 @@ use Rattle.std.proofs.Common.{◌≡◌, ℕ, Bool, not, ◌&&◌, ◌⊎◌, �
 use Rattle.std.proofs.lemmas.Bool.{cases_Bool, cases_lt, iff_false}
 use Rattle.std.proofs.lemmas.Bool.Decides.{nat_tests}
 use Rattle.quantity.specs.Group.{Group}
-use Rattle.flows.specs.Consistency.{net_reading, Inconsistent, Consistent, CutSum}
+use Rattle.flows.specs.Consistency.{net_reading, Inconsistent, CutSum}
 use Rattle.flows.specs.Decisions.{Above, unread, linked, from_side, class, cut_sum}
 use Rattle.flows.specs.declared.class.Class.TheVariants.{OutOfUse}
-use Rattle.flows.specs.Drawings.{Drawing, InUse, Within, Between}
-use Rattle.flows.specs.Labels.{Below}
-use Rattle.flows.specs.Flows.{net, Possible, PossibleBut, SomeFlow, read_set, readings}
+use Rattle.flows.specs.Drawings.{Drawing, InUse, Within}
+use Rattle.flows.specs.Flows.{net, PossibleBut, SomeFlow, read_set, readings}
 use Rattle.flows.specs.Parts.{Unread, Others, Joined, here, along, Part, Uncrossed, Linked}
 use Rattle.flows.specs.Theorems.{BalancedFlowsHaveNoNet, SomeFlowExactlyIfConsistent, SomeConflict, ConflictExcludesFlows, FlowOrConflict, ConflictExactlyIfNoFlow, ZeroOrAnything, TwoSides, ObservableCarriesItsCutSum, RedundantCarriesOneAmount, UnobservableCarriesAnything, JustMeasuredCarriesAnything, ExactlyOneClass}
 use Rattle.flows.proofs.Balances.{balanced_net, balanced_plus, balanced_difference}
 use Rattle.flows.proofs.Cuts.{side_amount, zero_at, anything_at}
 use Rattle.flows.proofs.Decisions.{above_size, side_is, linked_decides, class_decides, net_short, one_part_exactly_if_linked}
 use Rattle.flows.proofs.PartNets.{fill_consistent, not_both, not_neither, one_of_both}
-use Rattle.flows.proofs.Filling.{fill_skip, flow_exists}
+use Rattle.flows.proofs.Filling.{flow_exists}
 use Rattle.flows.proofs.Groups.{made_up, minus_difference, same_from_difference, unit_r}
 use Rattle.flows.proofs.Joins.{joined_map, joined_trans, joined_sym, joined_ends, part_uncrossed}
 use Rattle.flows.proofs.Nets.{net_same}
@@ -43,16 +42,12 @@ module _ (G : Group) where
   parts_uncrossed D w t = part_uncrossed w (Unread D (read_set t)) (λ _ u. u.0)
 
   pub some_flow_exactly_if_consistent : SomeFlowExactlyIfConsistent G
-  some_flow_exactly_if_consistent D w t = (λ s v _ C p _. flow_net D w t s C (parts_uncrossed D w t v C p), solved)
-    where
-      R : ℕ → Bool
-      R = read_set t
-
-      solved : Consistent G D t → SomeFlow G D t
-      solved h =
-          let s = flow_exists G D w (unread D R) (λ k _ e. grind arith) (readings G t)
-          (fill_skip G D (Unread D R) (Below D.size (unread D R)) (λ k u. grind arith) (readings G t) (fill_consistent G D w t h)) in
-          (s.0, record { balanced = s.1; agrees = λ k us x e. grind (arith, s.2 k) })
+  some_flow_exactly_if_consistent D w t = (
+    λ s v _ C p _. flow_net D w t s C (parts_uncrossed D w t v C p),
+    λ h.
+        let s = flow_exists G D w (unread D (read_set t)) (λ k _ e. grind arith) (readings G t) (λ C c. fill_consistent G D w t h C (λ k u. c k (grind arith))) in
+        (s.0, record { balanced = s.1; agrees = λ k us x e. grind (arith, s.2 k) }),
+  )
 
   conflict_excludes : (D : Drawing) → Within D → (t : ℕ → Option Element) → SomeConflict G D t → ¬ SomeFlow G D t
   conflict_excludes D w t (C, c) flow = c.not_zero (flow_net D w t flow C c.only_read_cross)
@@ -79,21 +74,17 @@ module _ (G : Group) where
   pub zero_or_anything : ZeroOrAnything G
   zero_or_anything D w S n us out =
       let decides = linked_decides D S D.size (above_size D) w n us in
-      ⊎_elim
-      (λ e. let j = decides.0 e in inr (j, anything_at G D w S n us out j))
-      (λ e. let off = iff_false decides e in inl (off, zero_at G D w S n us off))
-      (cases_Bool (linked D S D.size n))
+      ⊎_elim (λ e. inr (decides.0 e, anything_at G D w S n us out (decides.0 e))) (λ e. inl (iff_false decides e, zero_at G D w S n us (iff_false decides e))) (cases_Bool (linked D S D.size n))
 
   pub observable_carries_its_cut_sum : ObservableCarriesItsCutSum G
   unfolding net
-  observable_carries_its_cut_sum D w t n h = ((_, cut_sum_is G D t D.size (above_size D) w n h.0.0 _ refl), carried)
-    where
-      carried : (x : Element) → CutSum G D t n x → (f : ℕ → Element) → Possible G D t f → f n ≡ x
-      carried x c f p =
-          side_amount G D w (read_set t) n h.0.0 c.side c.from_side (λ j. h.1 ((on_a_path_exactly_if_linked D (read_set t) n h.0).1 j)) f (readings G t) p.balanced
-          (grind arith)
-          (λ k us _ i. grind (arith, p.agrees k us))
-          ∙ minus_difference G _ _ ∙ sym c.sum
+  observable_carries_its_cut_sum D w t n h = (
+    (_, cut_sum_is G D t D.size (above_size D) w n h.0.0 _ refl),
+    λ x c f p.
+        side_amount G D w (read_set t) n h.0.0 c.side c.from_side (λ j. h.1 ((on_a_path_exactly_if_linked D (read_set t) n h.0).1 j)) f (readings G t) p.balanced
+        (grind arith) (λ k us _ i. grind (arith, p.agrees k us))
+        ∙ minus_difference G _ _ ∙ sym c.sum,
+  )
 
   -- by the difference of two flows, from what is said of flows that are zero on the other read streams
   module _ (D : Drawing) (w : Within D) (t : ℕ → Option Element) (n : ℕ) (us : InUse D n) where
@@ -131,10 +122,7 @@ module _ (G : Group) where
 -- a way along streams of S goes without n, or from an end of n without n
 after_last : (D : Drawing) (S : ℕ → Type 0) (n a w : ℕ) → Joined D S a w → Joined D (Others S n) a w ⊎ (Joined D (Others S n) (D.from n) w ⊎ Joined D (Others S n) (D.to n) w)
 after_last D S n a w here = inl here
-after_last D S n a w (along {b = b} k s e j) = ⊎_elim (at e) inr (after_last D S n b w j)
-  where
-    at : Between D k a b → Joined D (Others S n) b w → Joined D (Others S n) a w ⊎ (Joined D (Others S n) (D.from n) w ⊎ Joined D (Others S n) (D.to n) w)
-    at e i = grind (arith, along)
+after_last D S n a w (along {b = b} k s e j) = ⊎_elim (λ i. grind (arith, along)) inr (after_last D S n b w j)
 
 pub two_sides : TwoSides
 two_sides D R n h C A B c a b w lw = (
