@@ -1,18 +1,16 @@
 -- The definitions leave each question one answer, rival's flows apart. Assumes nothing.
-use Rattle.std.proofs.Common.{◌≡◌, ℕ, suc, ◌≤◌, ◌⊎◌, Some, None, Ok, Err, Option, Result, sym, refl, ap, ◌∙◌, inr, ⊎_elim, arith}
+use Rattle.std.proofs.Common.{◌≡◌, ℕ, suc, ◌⊎◌, Some, None, Ok, Option, sym, refl, ap, ◌∙◌, inr, ⊎_elim, arith}
 use Rattle.std.proofs.lemmas.Bool.{cases_lt, not-true, not_from_false, false_from_ne_true, true_from_ne_false}
 use Rattle.quantity.specs.Group.{Group}
 use Rattle.quantity.specs.Model.{Model}
 use Rattle.flows.specs.Consistency.{CutSum}
 use Rattle.flows.specs.Decisions.{cut_sum}
-use Rattle.flows.specs.declared.fault.QuestionFault.{QuestionFault}
 use Rattle.flows.specs.Drawings.{Drawing, Within}
 use Rattle.flows.specs.Flows.{net, read_set, readings}
 use Rattle.flows.specs.Parts.{Unread, Others, Joined}
 use Rattle.flows.specs.Plants.{last_number}
-use Rattle.flows.specs.Questions.{SurveyFits, ValueFits, RivalFits, DisputeFits, unit_places, meant, holds, count, Surveyed, Valued, by_reading, by_cut_sum, no_amount, Disputed}
-use Rattle.flows.specs.Refusals.{number, Answer, accepted}
-use Rattle.flows.specs.Theorems.{DecisionsAreRight, SurveyAnswersAgree, ValueAnswersAgree, RivalAnswersAgree, DisputeAnswersAgree}
+use Rattle.flows.specs.Questions.{unit_places, meant, holds, count, Surveyed, Valued, by_reading, by_cut_sum, no_amount, Disputed}
+use Rattle.flows.specs.Theorems.{DecisionsAreRight, SurveyAnswersAgree, ValueAnswersAgree, DisputeAnswersAgree}
 use Rattle.flows.proofs.Cuts.{ends_within}
 use Rattle.flows.proofs.Decisions.{class_decides}
 use Rattle.flows.proofs.PartNets.{part_net, consistent_if, inconsistent_if, not_both}
@@ -36,22 +34,6 @@ decisions_are_right G D w t m above = record {
   inconsistent = λ s. (λ e. inconsistent_if G D w t s m above (not-true _ e), λ i. not_from_false _ (false_from_ne_true _ (λ e. not_both G D w t (consistent_if G D w t s m above e) i)));
   cut_sum = λ n us x. (λ c. cut_sum_only G D w t n x (cut_sum G D t m n) c (cut_sum_is G D t m above w n us _ refl), cut_sum_is G D t m above w n us x);
 }
-
--- of two refusals that fit, neither with a smaller number, both are one
-one_refusal : (f g : QuestionFault) → number f ≤ number g → number g ≤ number f → f ≡ g
-one_refusal f g a b = grind arith
-
--- two answers to one call are both accepted or refused alike; what is made of two accepted ones, and Z, is left to show
-module _ {T U Z : Type 0} (Fits : QuestionFault → Type 0) {Done Other : T → Type 0} {Kept Stays : Type 0} (value : T → U) where
-  agree : ((a b : T) → Done a → Other b → (value a ≡ value b) × Z) → (Kept → Stays → Z) → (r q : Result T QuestionFault)
-      → Answer number Fits Done Kept r → Answer number Fits Other Stays q → (accepted value r ≡ accepted value q) × Z
-  agree both kept (Ok a) (Ok b) x y = let z = both a b x.1 y.1 in (ap Ok z.0, z.1)
-  agree both kept (Ok a) (Err g) x y = absurd (x.0 g y.0)
-  agree both kept (Err f) (Ok b) x y = absurd (y.0 f x.0)
-  agree both kept (Err f) (Err g) x y = (ap Err (one_refusal f g (x.1 g y.0) (y.1 f x.0)), kept x.2 y.2)
-
-accepted_whole : {T : Type 0} (r q : Result T QuestionFault) → accepted (λ x. x) r ≡ accepted (λ x. x) q → r ≡ q
-accepted_whole r q e = grind arith
 
 module _ {Q : Type 0} (m : Model Q) (D : Drawing) (w : Within D) (t : ℕ → Option m.group.Element) where
   surveyed_table : (old new other : ℕ → Option ℕ) (a b : ℕ × ℕ × ℕ × ℕ) → Surveyed m D t old a new → Surveyed m D t old b other → (k : ℕ) → new k ≡ other k
@@ -95,20 +77,11 @@ module _ {Q : Type 0} (m : Model Q) (D : Drawing) (w : Within D) (t : ℕ → Op
     disputed_table k = grind (arith, one_unit, joined_or_not k, cases_lt k unit_places, x.marked k, y.marked k, x.unmarked k, y.unmarked k, x.kept k, y.kept k)
 
 pub survey_answers_agree : {Q : Type 0} (m : Model Q) → SurveyAnswersAgree m
-survey_answers_agree m D w t places old new other r q x y =
-    let a = agree (SurveyFits m D t places) (λ x. x) (λ a b c d. (surveyed_counts m D w t old new other a b c d, surveyed_table m D w t old new other a b c d)) (λ c d k. ap (λ table. table k) (c ∙ sym d)) r q x y in
-    (accepted_whole r q a.0, a.1)
+survey_answers_agree m D w t places old new other (Ok a) (Ok b) x y = (ap Ok (surveyed_counts m D w t old new other a b x.1 y.1), surveyed_table m D w t old new other a b x.1 y.1)
+survey_answers_agree m D w t places old new other _ _ x y = grind arith
 
 pub value_answers_agree : {Q : Type 0} (m : Model Q) → ValueAnswersAgree m
-value_answers_agree m D w t n r q x y = (agree (ValueFits m D t n) (meant m) (λ a b c d. (valued_same m D w t n a b c.1 d.1, tt {0})) (λ _ _. tt {0}) r q x y).0
-
-pub rival_answers_agree : {Q : Type 0} (m : Model Q) → RivalAnswersAgree m
-rival_answers_agree m D t n first old_first second old_second r q new_first new_second other_first other_second x y =
-    let a = agree (RivalFits m D t n first second) (λ x. x)
-    (λ _ _ c d. (refl, λ k out. (c.first.kept k out ∙ sym (d.first.kept k out), c.second.kept k out ∙ sym (d.second.kept k out))))
-    (λ c d k _. (ap (λ table. table k) (c.0 ∙ sym d.0), ap (λ table. table k) (c.1 ∙ sym d.1))) r q x y in
-    (accepted_whole r q a.0, a.1)
+value_answers_agree m D w t n r q x y = grind (arith, valued_same m D w t n)
 
 pub dispute_answers_agree : {Q : Type 0} (m : Model Q) → DisputeAnswersAgree m
-dispute_answers_agree m D w t places old new other r q x y =
-    agree (DisputeFits m D t places) m.means (λ a b c d. (disputed_net m D w t old new other a b c d, disputed_table m D w t old new other a b c d)) (λ c d k. ap (λ table. table k) (c ∙ sym d)) r q x y
+dispute_answers_agree m D w t places old new other r q x y = grind (arith, disputed_net m D w t old new other, disputed_table m D w t old new other)

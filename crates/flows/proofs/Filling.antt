@@ -3,7 +3,7 @@
 -- A loop over the streams without an amount starts with `fill_start`, takes `fill_skip` or `fill_next` at each, in any
 -- order, and ends with `fill_done`.
 use Rattle.std.proofs.Common.{◌≡◌, ℕ, zero, suc, ◌<◌, ◌≤◌, Bool, true, false, not, ◌&&◌, ◌⊎◌, ◌==◌, sym, refl, ap, ◌∙◌, ⊎_elim, arith}
-use Rattle.std.proofs.lemmas.Bool.{cases_Bool, eq-eqb, eqb-true}
+use Rattle.std.proofs.lemmas.Bool.{cases_Bool, eqb-true}
 use Rattle.std.proofs.lemmas.Bool.Decides.{nat_tests}
 use Rattle.quantity.specs.Group.{Group}
 use Rattle.quantity.proofs.GroupSums.{sum_same}
@@ -22,10 +22,10 @@ use Rattle.flows.proofs.Sums.{sum_one}
 -- labels by the streams of S give the side of the from place of n
 pub labels_side : (D : Drawing) (S : ℕ → Type 0) → Within D → (n : ℕ) (label : ℕ → ℕ) → D.from n ≤ D.units → Labels D S label → FillSide D S n (λ w. label w == label (D.from n))
 labels_side D S within n label fl h = record {
-  self = eq-eqb (label (D.from n)) (label (D.from n)) refl;
-  uncrossed = λ k b. ap (λ x. x == label (D.from n)) (h.alike k b);
-  from = λ k us y. h.joined (D.from n) (D.from k) fl (within.from k us) (sym (eqb-true (label (D.from k)) (label (D.from n)) y));
-  to = λ k us y. h.joined (D.from n) (D.to k) fl (within.to k us) (sym (eqb-true (label (D.to k)) (label (D.from n)) y));
+  self = grind (arith, nat_tests);
+  uncrossed = λ k b. grind (arith, h.alike k b);
+  from = λ k us y. h.joined _ _ fl (within.from k us) (sym (eqb-true _ _ y));
+  to = λ k us y. h.joined _ _ fl (within.to k us) (sym (eqb-true _ _ y));
 }
 
 module _ (G : Group) (D : Drawing) where

@@ -2,8 +2,8 @@
 --
 -- A loop over the streams starts with `labels_start`, takes `labels_skip` or `labels_merge` at each, and ends with labels for
 -- all streams that pass.
-use Rattle.std.proofs.Common.{◌≡◌, ℕ, ◌+◌, ◌<◌, ◌≤◌, Bool, true, false, cond, ◌⊎◌, ◌↔◌, IsTrue, ◌==◌, sym, refl, ap, ◌∙◌, ⊎_elim, arith}
-use Rattle.std.proofs.lemmas.Bool.{eq-eqb, eqb-true}
+use Rattle.std.proofs.Common.{◌≡◌, ℕ, ◌+◌, ◌<◌, ◌≤◌, Bool, true, false, if◌then◌else◌, ◌⊎◌, ◌↔◌, IsTrue, ◌==◌, sym, ap, ◌∙◌, ⊎_elim, arith}
+use Rattle.std.proofs.lemmas.Bool.{eqb-true}
 use Rattle.std.proofs.lemmas.Bool.Decides.{nat_tests}
 use Rattle.flows.specs.Drawings.{Drawing, Within}
 use Rattle.flows.specs.Labels.{Below, Labels}
@@ -14,7 +14,7 @@ use Rattle.flows.proofs.Joins.{joined_map, joined_trans, joined_sym, joined_ends
 pub labels_decide : (D : Drawing) (S : ℕ → Type 0) (label : ℕ → ℕ) → Labels D S label → (a b : ℕ) → a ≤ D.units → b ≤ D.units → IsTrue (label a == label b) ↔ Joined D S a b
 labels_decide D S label h a b la lb = (
   λ e. h.joined a b la lb (eqb-true (label a) (label b) e),
-  λ j. joined_uncrossed (λ w. label w == label b) (λ k s. ap (λ x. x == label b) (h.alike k s)) j ∙ eq-eqb (label b) (label b) refl,
+  λ j. grind (arith, nat_tests, joined_uncrossed (λ w. label w == label b) (λ k s. ap (λ x. x == label b) (h.alike k s)) j),
 )
 
 -- sets of streams with the same members have the same labels
@@ -38,7 +38,7 @@ module _ (D : Drawing) (e : ℕ → Bool) where
   -- the labels of the two ends of n are lo and hi, either way round, and lo takes the place of hi
   pub labels_merge : Within D → ((k : ℕ) → k < D.size → e k ≡ true → D.used k ≡ true) → (n : ℕ) (label merged : ℕ → ℕ) (lo hi : ℕ) → n < D.size → e n ≡ true
       → ((label (D.from n) ≡ lo) × (label (D.to n) ≡ hi)) ⊎ ((label (D.from n) ≡ hi) × (label (D.to n) ≡ lo))
-      → ((w : ℕ) → w ≤ D.units → merged w ≡ cond (label w == hi) lo (label w))
+      → ((w : ℕ) → w ≤ D.units → merged w ≡ if label w == hi then lo else label w)
       → Labels D (Below n e) label → Labels D (Below (n + 1) e) merged
   labels_merge within used n label merged lo hi lt us two new h = record {
     alike = alike;

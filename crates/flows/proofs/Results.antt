@@ -9,7 +9,7 @@ use Rattle.flows.specs.declared.class.Class.TheVariants.{OutOfUse}
 use Rattle.flows.specs.Drawings.{Drawing, InUse, Within}
 use Rattle.flows.specs.Flows.{net, PossibleBut, SomeFlow, read_set, readings}
 use Rattle.flows.specs.Parts.{Unread, Others, Joined, here, along, Part, Uncrossed, Linked}
-use Rattle.flows.specs.Theorems.{BalancedFlowsHaveNoNet, SomeFlowExactlyIfConsistent, SomeConflict, ConflictExcludesFlows, FlowOrConflict, ConflictExactlyIfNoFlow, ZeroOrAnything, TwoSides, ObservableCarriesItsCutSum, RedundantCarriesOneAmount, UnobservableCarriesAnything, JustMeasuredCarriesAnything, ExactlyOneClass}
+use Rattle.flows.specs.Theorems.{SomeFlowExactlyIfConsistent, SomeConflict, ConflictExcludesFlows, FlowOrConflict, ConflictExactlyIfNoFlow, ZeroOrAnything, TwoSides, ObservableCarriesItsCutSum, RedundantCarriesOneAmount, UnobservableCarriesAnything, JustMeasuredCarriesAnything, ExactlyOneClass}
 use Rattle.flows.proofs.Balances.{balanced_net, balanced_plus, balanced_difference}
 use Rattle.flows.proofs.Cuts.{side_amount, zero_at, anything_at}
 use Rattle.flows.proofs.Decisions.{above_size, side_is, linked_decides, class_decides, net_short, one_part_exactly_if_linked}
@@ -31,9 +31,6 @@ cut_sum_is G D t m above w n us x e = record {
 
 module _ (G : Group) where
   open G use {Element, plus, minus}
-
-  pub balanced_flows_have_no_net : BalancedFlowsHaveNoNet G
-  balanced_flows_have_no_net D w f b C = balanced_net G D w f b C
 
   flow_net : (D : Drawing) → Within D → (t : ℕ → Option Element) → SomeFlow G D t → (C : ℕ → Bool) → Uncrossed D (Unread D (read_set t)) C → net_reading G D t C ≡ G.zero
   flow_net D w t (f, p) C c = net_same G D C (readings G t) f (λ k us. grind (arith, p.agrees k us, c k)) ∙ balanced_net G D w f p.balanced C
