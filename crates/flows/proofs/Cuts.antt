@@ -1,5 +1,5 @@
 -- What a cut says of the amount of the one stream that crosses it. Assumes nothing.
-use Rattle.std.proofs.Common.{◌≡◌, ℕ, ◌≤◌, Bool, true, false, ◌⊎◌, ◌==◌, sym, refl, ap, ◌∙◌, inl, arith}
+use Rattle.std.proofs.Common.{◌≡◌, ℕ, ◌≤◌, Bool, true, false, ◌==◌, sym, refl, ap, ◌∙◌, inl, arith}
 use Rattle.std.proofs.lemmas.Bool.{false_from_ne_true}
 use Rattle.std.proofs.lemmas.Bool.Decides.{nat_tests}
 use Rattle.quantity.specs.Group.{Group}
@@ -19,36 +19,31 @@ use Rattle.flows.proofs.Nets.{net_same, net_none}
 pub ends_within : (D : Drawing) → Within D → (S : ℕ → Type 0) → ((k : ℕ) → S k → InUse D k) → (k : ℕ) → S k → (D.from k ≤ D.units) × (D.to k ≤ D.units)
 ends_within D within S used k s = (within.from k (used k s), within.to k (used k s))
 
-module _ (G : Group) (D : Drawing) (within : Within D) where
-  open G use {Element, plus, minus, unit, inverse}
+module _ (G : Group) (D : Drawing) (within : Within D) (S : ℕ → Bool) (n : ℕ) (us : InUse D n) where
+  open G use {Element, minus, unit}
 
-  -- n leaves C, and wherever another stream crosses it the flow has the amount of r: n carries what r owes
-  cut_amount : (n : ℕ) → InUse D n → (C : ℕ → Bool) → C (D.from n) ≡ true → C (D.to n) ≡ false → (f r : ℕ → Element) → Balanced G D f → r n ≡ G.zero
-      → ((k : ℕ) → InUse D k → ¬ (n ≡ k) → (r k ≡ f k) ⊎ (C (D.from k) ≡ C (D.to k))) → f n ≡ minus (net G D C r)
-  cut_amount n us C i o f r b free same = negative_only G (f n) (net G D C r) (
-      G.comm _ _
-      ∙ ap (plus (net G D C r)) (grind (arith, unit_r G, minus_zero G))
-      ∙ sym (net_bump G D C r n (f n) us)
-      ∙ net_same G D C (bump G D r n (f n)) f (λ k u. grind (arith, nat_tests, unit, unit_r G, same k u))
-      ∙ balanced_net G D within f b C)
+  -- n leaves the side of its from place, and wherever another stream crosses it the flow has the amount of r: n carries what r owes
+  pub side_amount : (C : ℕ → Bool) → Part D (Others (Unread D S) n) (D.from n) C → ¬ Linked D S n → (f r : ℕ → Element) → Balanced G D f → r n ≡ G.zero
+      → ((k : ℕ) → InUse D k → ¬ (n ≡ k) → S k ≡ true → r k ≡ f k) → f n ≡ minus (net G D C r)
+  side_amount C p off f r b free same = negative_only G (f n) (net G D C r) (grind (
+    arith,
+    G.comm,
+    unit_r G,
+    minus_zero G,
+    (p (D.from n) (within.from n us)).1 here,
+    false_from_ne_true (C (D.to n)) (λ i. off ((p (D.to n) (within.to n us)).0 i)),
+    net_bump G D C r n (f n) us,
+    net_same G D C (bump G D r n (f n)) f (λ k u. grind (arith, nat_tests, unit, unit_r G, same k u, part_uncrossed within (Others (Unread D S) n) (λ _ s. s.0.0) (D.from n) C p k)),
+    balanced_net G D within f b C,
+  ))
 
-  module _ (S : ℕ → Bool) (n : ℕ) (us : InUse D n) where
-    -- n leaves the side of its from place, and no other stream outside S crosses it
-    pub side_amount : (C : ℕ → Bool) → Part D (Others (Unread D S) n) (D.from n) C → ¬ Linked D S n → (f r : ℕ → Element) → Balanced G D f → r n ≡ G.zero
-        → ((k : ℕ) → InUse D k → ¬ (n ≡ k) → S k ≡ true → r k ≡ f k) → f n ≡ minus (net G D C r)
-    side_amount C p off f r b free same = cut_amount n us C
-        ((p (D.from n) (within.from n us)).1 here)
-        (false_from_ne_true (C (D.to n)) (λ i. off ((p (D.to n) (within.to n us)).0 i)))
-        f r b free
-        (λ k u d. grind (arith, same k u d, part_uncrossed within (Others (Unread D S) n) (λ _ s. s.0.0) (D.from n) C p k))
+  pub zero_at : ¬ Linked D S n → ZeroAt G D S n
+  zero_at off f b z =
+      side_amount _ (side_is D S D.size (above_size D) within n us) off f (λ _. G.zero) b refl (λ k u _ i. sym (z k u i))
+      ∙ ap minus (net_none G D _ (λ _. G.zero) (λ _ _. inl refl)) ∙ minus_zero G
 
-    pub zero_at : ¬ Linked D S n → ZeroAt G D S n
-    zero_at off f b z =
-        side_amount _ (side_is D S D.size (above_size D) within n us) off f (λ _. G.zero) b refl (λ k u _ i. sym (z k u i))
-        ∙ ap minus (net_none G D _ (λ _. G.zero) (λ _ _. inl refl)) ∙ minus_zero G
-
-    pub anything_at : S n ≡ false → Linked D S n → AnythingAt G D S n
-    anything_at out j x =
-        let s = flow_exists G D within (unread_but D S n) (λ k _ e. grind arith) (λ k. pick G (n == k) x)
-        (λ C c. let flat = joined_uncrossed C (λ k o. c k (grind (arith, nat_tests))) j in net_none G D C _ (λ k _. grind (arith, nat_tests, flat))) in
-        (s.0, s.1, λ k u i. grind (arith, nat_tests, s.2 k), grind (arith, nat_tests, s.2 n))
+  pub anything_at : S n ≡ false → Linked D S n → AnythingAt G D S n
+  anything_at out j x =
+      let s = flow_exists G D within (unread_but D S n) (λ k _ e. grind arith) (λ k. pick G (n == k) x)
+      (λ C c. let flat = joined_uncrossed C (λ k o. c k (grind (arith, nat_tests))) j in net_none G D C _ (λ k _. grind (arith, nat_tests, flat))) in
+      (s.0, s.1, λ k u i. grind (arith, nat_tests, s.2 k), grind (arith, nat_tests, s.2 n))

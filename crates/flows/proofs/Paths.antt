@@ -1,6 +1,6 @@
 -- A stream is on a closed path exactly if the other streams join its ends. Assumes nothing.
 use Rattle.std.proofs.Common.{ℕ, ◌⊎◌, List, [], ◌∷◌, sym, refl, inl, inr, ⊎_elim, arith}
-use Rattle.flows.specs.Drawings.{Drawing, Between}
+use Rattle.flows.specs.Drawings.{Drawing}
 use Rattle.flows.specs.Parts.{Joined, here, along, Others}
 use Rattle.flows.specs.Paths.{Member, Distinct, Route, stop, next, ClosedPath}
 use Rattle.flows.specs.Theorems.{OnAPathExactlyIfLinked}
@@ -52,10 +52,7 @@ module _ {D : Drawing} {S : ℕ → Type 0} where
   -- a way from a to c that uses n once, and one back without n, join the ends of n without n
   around : {a c : ℕ} {ks vs : List ℕ} (n : ℕ) → Route D S a c ks vs → Distinct ks → Member n ks → Joined D (Others S n) c a → Joined D (Others S n) (D.from n) (D.to n)
   around n stop d m back = absurd m
-  around {a} n (next {b = b} k s e r) d (inl q) back = turned e (joined_trans (without n r (grind arith)) back)
-    where
-      turned : Between D k a b → Joined D (Others S n) b a → Joined D (Others S n) (D.from n) (D.to n)
-      turned e j = let i = joined_sym j in grind arith
+  around n (next k s e r) d (inl q) back = let i = joined_trans (without n r (grind arith)) back in let j = joined_sym i in grind arith
   around n (next k s e r) d (inr m) back = around n r d.1 m (joined_trans back (along k (s, grind arith) e here))
 
 -- a way along others of S is one along S that does not use n
