@@ -1,5 +1,5 @@
 -- A stream is on a closed path exactly if the other streams join its ends. Assumes nothing.
-use Rattle.std.proofs.Common.{ℕ, ◌⊎◌, List, [], ◌∷◌, sym, refl, inl, inr, ⊎_elim, arith}
+use Rattle.std.proofs.Common.{ℕ, ◌⊎◌, List, [], ◌∷◌, refl, inl, inr, ⊎_elim, arith}
 use Rattle.flows.specs.Drawings.{Drawing}
 use Rattle.flows.specs.Parts.{Joined, here, along, Others}
 use Rattle.flows.specs.Paths.{Member, Distinct, Route, stop, next, ClosedPath}
@@ -47,7 +47,7 @@ module _ {D : Drawing} {S : ℕ → Type 0} where
   -- a way that does not use n
   without : {a c : ℕ} {ks vs : List ℕ} (n : ℕ) → Route D S a c ks vs → ¬ Member n ks → Joined D (Others S n) a c
   without n stop h = here
-  without n (next k s e r) h = along k (s, λ q. h (inl (sym q))) e (without n r (λ m. h (inr m)))
+  without n (next k s e r) h = along k (s, grind arith) e (without n r (grind arith))
 
   -- a way from a to c that uses n once, and one back without n, join the ends of n without n
   around : {a c : ℕ} {ks vs : List ℕ} (n : ℕ) → Route D S a c ks vs → Distinct ks → Member n ks → Joined D (Others S n) c a → Joined D (Others S n) (D.from n) (D.to n)

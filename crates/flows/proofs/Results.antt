@@ -8,7 +8,7 @@ use Rattle.flows.specs.Decisions.{Above, unread, linked, from_side, class, cut_s
 use Rattle.flows.specs.declared.class.Class.TheVariants.{OutOfUse}
 use Rattle.flows.specs.Drawings.{Drawing, InUse, Within}
 use Rattle.flows.specs.Flows.{net, PossibleBut, SomeFlow, read_set, readings}
-use Rattle.flows.specs.Parts.{Unread, Others, Joined, here, along, Part, Uncrossed, Linked}
+use Rattle.flows.specs.Parts.{Unread, Others, Joined, here, along, Uncrossed, Linked}
 use Rattle.flows.specs.Theorems.{SomeFlowExactlyIfConsistent, SomeConflict, ConflictExcludesFlows, FlowOrConflict, ConflictExactlyIfNoFlow, ZeroOrAnything, TwoSides, ObservableCarriesItsCutSum, RedundantCarriesOneAmount, UnobservableCarriesAnything, JustMeasuredCarriesAnything, ExactlyOneClass}
 use Rattle.flows.proofs.Balances.{balanced_net, balanced_plus, balanced_difference}
 use Rattle.flows.proofs.Cuts.{side_amount, zero_at, anything_at}
@@ -35,12 +35,9 @@ module _ (G : Group) where
   flow_net : (D : Drawing) → Within D → (t : ℕ → Option Element) → SomeFlow G D t → (C : ℕ → Bool) → Uncrossed D (Unread D (read_set t)) C → net_reading G D t C ≡ G.zero
   flow_net D w t (f, p) C c = net_same G D C (readings G t) f (λ k us. grind (arith, p.agrees k us, c k)) ∙ balanced_net G D w f p.balanced C
 
-  parts_uncrossed : (D : Drawing) → Within D → (t : ℕ → Option Element) (v : ℕ) (C : ℕ → Bool) → Part D (Unread D (read_set t)) v C → Uncrossed D (Unread D (read_set t)) C
-  parts_uncrossed D w t = part_uncrossed w (Unread D (read_set t)) (λ _ u. u.0)
-
   pub some_flow_exactly_if_consistent : SomeFlowExactlyIfConsistent G
   some_flow_exactly_if_consistent D w t = (
-    λ s v _ C p _. flow_net D w t s C (parts_uncrossed D w t v C p),
+    λ s v _ C p _. flow_net D w t s C (part_uncrossed w (Unread D (read_set t)) (λ _ u. u.0) v C p),
     λ h.
         let s = flow_exists G D w (unread D (read_set t)) (λ k _ e. grind arith) (readings G t) (λ C c. fill_consistent G D w t h C (λ k u. c k (grind arith))) in
         (s.0, record { balanced = s.1; agrees = λ k us x e. grind (arith, s.2 k) }),
@@ -51,7 +48,7 @@ module _ (G : Group) where
 
   -- a part in dispute is a set in conflict
   conflict_from_part : (D : Drawing) → Within D → (t : ℕ → Option Element) → Inconsistent G D t → SomeConflict G D t
-  conflict_from_part D w t (v, C, d) = (C, record { without_0 = d.without_0; only_read_cross = parts_uncrossed D w t v C d.part; not_zero = d.not_zero })
+  conflict_from_part D w t (v, C, d) = (C, record { without_0 = d.without_0; only_read_cross = part_uncrossed w (Unread D (read_set t)) (λ _ u. u.0) v C d.part; not_zero = d.not_zero })
 
   pub conflict_excludes_flows : ConflictExcludesFlows G
   conflict_excludes_flows D w t = (conflict_excludes D w t, λ i. conflict_excludes D w t (conflict_from_part D w t i))

@@ -4,8 +4,9 @@ use Rattle.std.proofs.lemmas.Bool.{cases_eq}
 use Rattle.std.proofs.lemmas.Bool.Decides.{nat_tests}
 use Rattle.quantity.specs.Group.{Group}
 use Rattle.quantity.specs.Sums.{sum}
+use Rattle.quantity.proofs.GroupSums.{sum_carried}
 use Rattle.flows.specs.Flows.{pick}
-use Rattle.flows.proofs.Groups.{unit_r, middle, minus_plus}
+use Rattle.flows.proofs.Groups.{unit_r, middle, minus_zero, minus_plus}
 
 module _ (G : Group) where
   open G use {Element, plus, minus, unit, inverse}
@@ -19,8 +20,7 @@ module _ (G : Group) where
   sum_plus (suc n) g h = ap (λ s. plus s (plus (g n) (h n))) (sum_plus n g h) ∙ middle G _ _ _ _
 
   pub sum_difference : (n : ℕ) (g h : ℕ → Element) → sum G n (λ k. plus (g k) (minus (h k))) ≡ plus (sum G n g) (minus (sum G n h))
-  sum_difference zero g h = sym (inverse G.zero)
-  sum_difference (suc n) g h = ap (λ s. plus s (plus (g n) (minus (h n)))) (sum_difference n g h) ∙ middle G _ _ _ _ ∙ ap (plus _) (sym (minus_plus G _ _))
+  sum_difference n g h = sum_plus n g (λ k. minus (h k)) ∙ ap (plus _) (sym (sum_carried G G minus (minus_zero G) (minus_plus G) n h))
 
   -- a sum with one place
   pub sum_one : (n : ℕ) (w : ℕ) (h : ℕ → Element) → w < n → sum G n (λ v. pick G (w == v) (h v)) ≡ h w
