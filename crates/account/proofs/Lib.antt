@@ -1,4 +1,2 @@
-pub mod Spaces
 pub mod Steps
-pub mod Heads
 pub mod Rowing

@@ -1,39 +1,42 @@
 -- One more line of an account. Assumes nothing.
-use Rattle.std.proofs.Common.{◌≡◌, ℕ, suc, ◌+◌, ◌<◌, List, [], ◌∷◌, ◌++◌, length, get_or, sym, ◌∙◌, subst, inl, inr, add-one, Bor}
+use Rattle.std.proofs.Common.{◌≡◌, ℕ, ◌+◌, ◌<◌, List, [], ◌∷◌, ◌++◌, length, get_or, refl, inl, inr, add-one, Bor, Ok, Err, Result, MatchResult}
+use Rattle.std.specs.Prelude.{IsErrAnd}
 use Rattle.std.proofs.lemmas.List.{get_or-map, length-map}
 use Rattle.account.specs.declared.entry.Entry.{Entry}
 use Rattle.account.specs.declared.fault.Fault.{Fault}
-use Rattle.account.specs.Lines.{texts, Passed, Gives, NoEntry, Reads, Entries, Stops}
+use Rattle.account.specs.declared.fault.ReadError.{ReadError}
+use Rattle.account.specs.declared.fault.ReadError.TheVariants.{Line}
+use Rattle.account.specs.Lines.{texts, Passed, Gives, NoEntry, Reads, NotRead}
 
 module _ {Q : Type 0} (W : List ℕ → Q → Type 0) (H : List ℕ) (xs : List (Bor (List ℕ))) (n : ℕ) (d : Bor (List ℕ)) (inside : n < length xs) (es : List (Entry Q)) (c : ℕ) (before : Reads W H (texts xs) n es c) where
-  -- what is said of the line at place n, said of the text at place n
-  of_text : (P : List ℕ → Type 0) → P (get_or xs n d).now → P (get_or (texts xs) n [])
-  of_text P = subst P (sym (get_or-map (λ x. x.now) xs n d [] inside))
+  -- the line at place n, and its text
+  text_at : get_or (texts xs) n [] ≡ (get_or xs n d).now
+  text_at = get_or-map (λ x. x.now) xs n d [] inside
 
-  next : (fs : List (Entry Q)) (b : ℕ) → Reads W H (texts xs) (suc n) fs b → Reads W H (texts xs) (n + 1) fs b
-  next fs b h = let P : ℕ → Type 0 = λ k. Reads W H (texts xs) k fs b in subst P (sym (add-one n)) h
+  pub reads_passed : Passed H n (get_or xs n d).now → Reads W H (texts xs) (n + 1) es c
+  reads_passed passed = rw (add-one, text_at) (inl (passed, before))
 
-  pub reads_passed : Passed H n (get_or xs n d).now → (fs : List (Entry Q)) (b : ℕ) → fs ≡ es → b ≡ c → Reads W H (texts xs) (n + 1) fs b
-  reads_passed h fs b is is_day =
-      let P : List (Entry Q) → Type 0 = λ es. Reads W H (texts xs) n es b in
-      let before : Reads W H (texts xs) n fs b = subst P (sym is) (subst (Reads W H (texts xs) n es) (sym is_day) before) in
-      next fs b (inl (of_text (Passed H n) h, before))
+  module _ (no_pass : Passed H n (get_or xs n d).now → ⊥) where
+    pub reads_entry : (e : Entry Q) → Gives W (get_or xs n d).now e × (c < e.day) → (fs : List (Entry Q)) → fs ≡ es ++ (e ∷ []) → Reads W H (texts xs) (n + 1) fs e.day
+    reads_entry e h fs is =
+        rw (add-one, text_at) (inr (no_pass, (es, c, e, before, h.0, h.1, is, refl)))
 
-  pub reads_entry : (e : Entry Q) → (Passed H n (get_or xs n d).now → ⊥) → Gives W (get_or xs n d).now e × (c < e.day) → (fs : List (Entry Q)) (b : ℕ) → fs ≡ es ++ (e ∷ []) → b ≡ e.day → Reads W H (texts xs) (n + 1) fs b
-  reads_entry e no_pass h fs b is is_day =
-      next fs b (inr (of_text (λ l. Passed H n l → ⊥) no_pass, (es, c, e, before, of_text (λ l. Gives W l e) h.0, h.1, is, is_day)))
+    stops_here : (f : Fault) → NoEntry W (get_or xs n d).now c f → NotRead W H (texts xs) (Line (n + 1) f)
+    stops_here f h = (
+      n,
+      refl,
+      record {
+        inside = simp length-map inside;
+        not_passed = rw text_at no_pass;
+        entries = es;
+        latest = c;
+        before = before;
+        reason = rw text_at h;
+      },
+    )
 
-  pub stops_here : (f : Fault) → (Passed H n (get_or xs n d).now → ⊥) → NoEntry W (get_or xs n d).now c f → Stops W H (texts xs) n f
-  stops_here f no_pass h = record {
-    inside = simp length-map inside;
-    not_passed = of_text (λ l. Passed H n l → ⊥) no_pass;
-    entries = es;
-    latest = c;
-    before = before;
-    reason = of_text (λ l. NoEntry W l c f) h;
-  }
-
--- the lines, once each of them is read
-pub reads_all : {Q : Type 0} (W : List ℕ → Q → Type 0) (H : List ℕ) (xs : List (Bor (List ℕ))) (n : ℕ) (es : List (Entry Q)) (c : ℕ) → Reads W H (texts xs) n es c → n ≡ length xs → Entries W H (texts xs) es
-reads_all W H xs n es c h is =
-    let P : ℕ → Type 0 = λ k. Reads W H (texts xs) k es c in (c, subst P (is ∙ sym (length-map xs (λ x. x.now))) h)
+    -- the error that s has is made of the fault that r has
+    pub stops_with : (r : Result (Entry Q) Fault) (s : Result (Entry Q) ReadError) (e : ReadError) → MatchResult r (λ e. Gives W (get_or xs n d).now e × (c < e.day)) (NoEntry W (get_or xs n d).now c) → MatchResult r (λ x. s ≡ Ok x) (λ f. IsErrAnd s (λ e. e ≡ Line (n + 1) f)) → s ≡ Err e → NotRead W H (texts xs) e
+    stops_with (Ok x) s e h made is = absurd cc
+    stops_with (Err f) (Ok x) e h made is = absurd cc
+    stops_with (Err f) (Err d) e h made is = let same : e ≡ Line (n + 1) f = cc in rw same (stops_here f h)

@@ -4,6 +4,7 @@ ghost use Rattle.account.specs.declared.fault.ReadError.TheVariants.{Memory};
 ghost use Rattle.account.specs.Messages.{reason_of, message};
 
 use std::alloc::AllocFailed;
+use std::error::Error;
 use std::fmt;
 
 /// Why a line gives no next entry.
@@ -34,6 +35,17 @@ impl Fault {
     }
 }
 
+/// The reason, in words.
+impl fmt::Display for Fault {
+    ghost output = { λ f. Some (reason_of f) };
+
+    fn fmt<W: fmt::Write>(&self, f: &mut fmt::Formatter<W>) -> fmt::Result {
+        f.write_str(self.reason())
+    }
+}
+
+impl Error for Fault {}
+
 /// Why lines are not read.
 #[derive(Clone, Copy, PartialEq, Eq, Debug)]
 pub enum ReadError {
@@ -51,16 +63,16 @@ impl<T: Drop> From<AllocFailed<T>> for ReadError {
     }
 }
 
+/// The number of the line and the reason, or that there is no memory.
 impl fmt::Display for ReadError {
     ghost output = { λ e. Some (message e) };
 
     fn fmt<W: fmt::Write>(&self, f: &mut fmt::Formatter<W>) -> fmt::Result {
-        match *self {
-            ReadError::Line { number, fault } => {
-                let reason = fault.reason();
-                write!(f, "line {number}: {reason}")
-            }
+        match self {
+            ReadError::Line { number, fault } => write!(f, "line {number}: {fault}"),
             ReadError::Memory => write!(f, "there is not enough memory"),
         }
     }
 }
+
+impl Error for ReadError {}

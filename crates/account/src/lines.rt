@@ -1,5 +1,5 @@
 //! Reading the lines of an account.
-ghost use Rattle.std.specs.Prelude.{◌<◌, Decides, MatchOption, MatchResult};
+ghost use Rattle.std.specs.Prelude.{◌<◌, ◌↔◌, IsTrue, MatchOption, MatchResult};
 ghost use Rattle.account.specs.Lines.{texts, Passed, Spaceless, Cut, Gives, NoEntry, Entries, NotRead};
 ghost use Rattle.account.specs.Texts.{WritesDay, Finds};
 
@@ -10,21 +10,15 @@ use std::alloc::Global;
 
 /// Whether the line at this place is passed over: it is empty, begins with `#`, or is the heading in the first place.
 pub fn is_passed_over<Q: Metered>(place: usize, line: &str) -> bool
-    ensures { Decides result (Passed Q.heading place line.now) }
+    ensures { IsTrue result ↔ (Passed Q.heading place line.now) }
 {
-    match line.as_bytes() {
-        [] | [b'#', ..] => true,
-        _ => place == 0 && line == Q::heading(),
-    }
+    line.is_empty() || line.starts_with('#') || (place == 0 && line == Q::heading())
 }
 
 fn read_day(text: &str) -> Option<u8>
     ensures { Finds (WritesDay text.now) result }
 {
-    match text.parse::<u8>() {
-        Ok(day) if 1 <= day && day <= 31 => Some(day),
-        _ => None,
-    }
+    text.parse().ok().filter(|day| (1..=31).contains(day))
 }
 
 // What stands before and after the first space of the line.
@@ -36,17 +30,13 @@ fn cut_at_space(line: &str) -> Option<(&str, &str)>
 
 /// The entry that the line gives, for a later day than `latest`: the day, one space, the amount.
 pub fn read_entry<Q: Metered>(line: &str, latest: u8) -> Result<Entry<Q>, Fault>
-    ensures { MatchResult result (λ e. Gives Q.writes line.now e × (latest < e.day)) (λ f. NoEntry Q.writes line.now latest f) }
+    ensures { MatchResult result
+        (λ e. Gives Q.writes line.now e × (latest < e.day))
+        (NoEntry Q.writes line.now latest) }
 {
-    let Some((day, amount)) = cut_at_space(line) else {
-        return Err(Fault::NoSpace);
-    };
-    let Some(day) = read_day(day) else {
-        return Err(Fault::BadDay);
-    };
-    let Some(amount) = Q::read(amount) else {
-        return Err(Fault::BadAmount);
-    };
+    let (day, amount) = cut_at_space(line).ok_or(Fault::NoSpace)?;
+    let day = read_day(day).ok_or(Fault::BadDay)?;
+    let amount = Q::read(amount).ok_or(Fault::BadAmount)?;
     if day <= latest {
         return Err(Fault::NotLater);
     }
@@ -58,23 +48,22 @@ pub fn read_entry<Q: Metered>(line: &str, latest: u8) -> Result<Entry<Q>, Fault>
 /// The heading in the first line, and lines that are empty or begin with `#`, are passed over. The first other line that
 /// gives no next entry is named, and nothing is read after it.
 pub fn read_entries<Q: Metered>(heap: Global, lines: &[&str]) -> Result<Vec<Entry<Q>>, ReadError>
-    ensures { MatchResult result (λ v. Entries Q.writes Q.heading (texts lines.now) v.items) (λ e. NotRead Q.writes Q.heading (texts lines.now) e) }
+    ensures { MatchResult result
+        (λ v. Entries Q.writes Q.heading (texts lines.now) v.items)
+        (NotRead Q.writes Q.heading (texts lines.now)) }
 {
     let mut entries = Vec::new(heap);
     let mut latest = 0;
     for (place, line) in lines.iter().enumerate() {
-        if !is_passed_over::<Q>(place, line) {
-            match read_entry(line, latest) {
-                Ok(entry) => {
-                    entries.push(entry)?;
-                    latest = entry.day;
-                }
-                Err(fault) => return Err(ReadError::Line {
-                    number: place + 1,
-                    fault,
-                }),
-            }
+        if is_passed_over::<Q>(place, line) {
+            continue;
         }
+        let entry = read_entry(line, latest).map_err(|fault| ReadError::Line {
+            number: place + 1,
+            fault,
+        })?;
+        entries.push(entry)?;
+        latest = entry.day;
     }
     Ok(entries)
 }

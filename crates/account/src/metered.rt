@@ -34,10 +34,10 @@ impl Metered for Totaliser {
     }
 
     fn read(text: &str) -> Option<Totaliser> {
-        match text.parse::<u32>() {
-            Ok(advance) if advance < MODULUS => Some(Totaliser(advance)),
-            _ => None,
-        }
+        text.parse()
+            .ok()
+            .filter(|advance| *advance < MODULUS)
+            .map(Totaliser)
     }
 }
 
@@ -51,9 +51,6 @@ impl Metered for Mass {
     }
 
     fn read(text: &str) -> Option<Mass> {
-        match text.parse::<i64>() {
-            Ok(grams) if Mass(grams).is_bounded() => Some(Mass(grams)),
-            _ => None,
-        }
+        text.parse().ok().map(Mass).filter(|mass| mass.is_bounded())
     }
 }

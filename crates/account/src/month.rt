@@ -1,5 +1,5 @@
 //! A month's entries, in the quantity that the heading names.
-ghost use Rattle.std.specs.Prelude.{Decides, MatchResult};
+ghost use Rattle.std.specs.Prelude.{◌↔◌, IsTrue, MatchResult};
 ghost use Rattle.account.specs.Lines.{texts};
 ghost use Rattle.account.specs.Months.{Headed, MonthOf, NoMonth};
 
@@ -22,22 +22,19 @@ pub enum Month {
 
 // Whether the first line is the heading of the quantity.
 fn is_headed<Q: Metered>(lines: &[&str]) -> bool
-    ensures { Decides result (Headed Q.heading (texts lines.now)) }
+    ensures { IsTrue result ↔ (Headed Q.heading (texts lines.now)) }
 {
-    match lines {
-        [first, ..] => *first == Q::heading(),
-        [] => false,
-    }
+    lines.first().is_some_and(|first| *first == Q::heading())
 }
 
 /// The entries that the lines give. They are masses where the first line is `quantity mass`; else they are advances of a
 /// counter, whether or not the first line is `quantity totaliser`.
 pub fn read_month(heap: Global, lines: &[&str]) -> Result<Month, ReadError>
-    ensures { MatchResult result (λ m. MonthOf (texts lines.now) m) (λ e. NoMonth (texts lines.now) e) }
+    ensures { MatchResult result (MonthOf (texts lines.now)) (NoMonth (texts lines.now)) }
 {
     if is_headed::<Mass>(lines) {
-        Ok(Month::Masses(read_entries::<Mass>(heap, lines)?))
+        read_entries(heap, lines).map(Month::Masses)
     } else {
-        Ok(Month::Advances(read_entries::<Totaliser>(heap, lines)?))
+        read_entries(heap, lines).map(Month::Advances)
     }
 }

@@ -1,5 +1,5 @@
 //! The account itself: a row for each entry, with the running total.
-ghost use Rattle.std.specs.Prelude.{◌≡◌, ◌≤◌, map, length, IfOk, Decides};
+ghost use Rattle.std.specs.Prelude.{◌≡◌, ◌≤◌, ◌↔◌, map, length, IfOk, IsTrue};
 ghost use Rattle.std.specs.List.{AllByRecursion};
 ghost use Rattle.quantity.specs.Group.{whole};
 ghost use Rattle.quantity.specs.Masses.{mass_model, Bounded};
@@ -14,7 +14,7 @@ use quantity::totaliser::Totaliser;
 use std::alloc::{AllocError, Global};
 
 /// One day of the account.
-#[derive(Clone, Copy)]
+#[derive(Clone, Copy, PartialEq, Eq, Debug)]
 pub struct Row<Q> {
     pub day: u8,
     pub amount: Q,
@@ -27,14 +27,14 @@ pub struct Row<Q> {
 impl Row<Totaliser> {
     /// Whether the counter passed 999,999 on this day. It stands at 0 as the month begins.
     pub fn rolled_over(&self) -> bool
-        ensures { Decides result (RollsOver self.now.before self.now.amount) }
+        ensures { IsTrue result ↔ (RollsOver self.now.before self.now.amount) }
     {
         self.before.rolls_over(self.amount)
     }
 }
 
 /// A month's account: its rows by day, and the total of the month.
-#[derive(Drop)]
+#[derive(PartialEq, Eq, Debug, Drop)]
 pub struct Account<Q> {
     pub rows: Vec<Row<Q>>,
     pub total: Q,
@@ -47,12 +47,12 @@ impl<Q: Quantity> Account<Q> {
     {
         let mut rows = Vec::with_capacity(heap, entries.len())?;
         let mut total = Q::zero();
-        for entry in entries {
+        for &Entry { day, amount } in entries {
             let before = total;
-            total = before.plus(entry.amount);
+            total = before.plus(amount);
             rows.push(Row {
-                day: entry.day,
-                amount: entry.amount,
+                day,
+                amount,
                 before,
                 total,
             })?;
@@ -66,10 +66,10 @@ impl Account<Mass> {
     /// numbers: nothing has wrapped.
     pub fn of_masses(heap: Global, entries: &[Entry<Mass>]) -> Result<Account<Mass>, AllocError>
         ensures kept { IfOk result (λ a. Keeps mass_model entries.now a.rows.items a.total) }
-        ensures exact { IfOk result (λ a. length entries.now ≤ 1024 → AllByRecursion (λ e. Bounded e.amount.0) entries.now → a.total.0 ≡ sum_all whole (map (λ e. e.amount.0) entries.now)) }
+        ensures exact { IfOk result (λ a. length entries.now ≤ 1024
+            → AllByRecursion (λ e. Bounded e.amount.0) entries.now
+            → a.total.0 ≡ sum_all whole (map (λ e. e.amount.0) entries.now)) }
     {
-        // The proof speaks of the account by its name.
-        let account = Account::new(heap, entries)?;
-        Ok(account)
+        Account::new(heap, entries)
     }
 }

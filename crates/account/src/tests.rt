@@ -7,10 +7,7 @@ use std::test::Fail;
 
 // The error with which the lines are refused.
 fn refusal(heap: Global, lines: &[&str]) -> Result<ReadError, Fail> {
-    match read_month(heap, lines) {
-        Ok(_) => Err(Fail::new("the lines are read")),
-        Err(error) => Ok(error),
-    }
+    Ok(read_month(heap, lines).err().ok_or("the lines are read")?)
 }
 
 #[test]
@@ -21,7 +18,7 @@ fn a_counter_rolls_over(rt: HostRuntime) -> Result<(), Fail> {
         return Err(Fail::new("these are advances"));
     };
     let account = Account::new(heap, entries.as_slice())?;
-    assert!(rt; account.rows.len() == 3);
+    assert_eq!(rt; account.rows.len(), 3);
     assert_eq!(rt; account.rows[1].day, 2);
     assert_eq!(rt; account.rows[1].total.0, 10);
     assert!(rt; !account.rows[0].rolled_over() && account.rows[1].rolled_over());
@@ -36,7 +33,7 @@ fn masses_have_a_heading(rt: HostRuntime) -> Result<(), Fail> {
     let Month::Masses(entries) = read_month(heap, &lines)? else {
         return Err(Fail::new("these are masses"));
     };
-    assert!(rt; entries.len() == 2);
+    assert_eq!(rt; entries.len(), 2);
     assert_eq!(rt; entries[0].amount.0, -1_000_000_000_000);
     assert_eq!(rt; Account::of_masses(heap, entries.as_slice())?.total.0, 0);
     Ok(())
@@ -59,7 +56,8 @@ fn the_first_bad_line_is_named(rt: HostRuntime) -> Result<(), Fail> {
         let lines: Vec<&str> = text.lines().collect(heap)?;
         assert_eq!(rt;
             refusal(heap, lines.as_slice())?,
-            ReadError::Line { number, fault }
+            ReadError::Line { number, fault },
+            "in {text:?}"
         );
     }
     assert!(rt; read_month(heap, &["quantity totaliser", "1 5"]).is_ok());
@@ -68,8 +66,11 @@ fn the_first_bad_line_is_named(rt: HostRuntime) -> Result<(), Fail> {
 
 #[test]
 fn a_bad_line_gets_a_message(rt: HostRuntime) -> Result<(), Fail> {
-    let error = refusal(rt.alloc(), &["1 5", "two 5"])?;
-    let text = format!(in rt.alloc(); "{error}")?;
-    assert!(rt; text.as_str() == "line 2: the day is not a number from 1 to 31");
+    let heap = rt.alloc();
+    let text = refusal(heap, &["1 5", "two 5"])?.to_string(heap)?;
+    assert_eq!(rt;
+        text.as_str(),
+        "line 2: the day is not a number from 1 to 31"
+    );
     Ok(())
 }

@@ -1,5 +1,7 @@
-use Rattle.account.proofs.Spaces.{cut_from_split}
+use Rattle.std.proofs.Common.{lit<, rules}
+use Rattle.std.proofs.lemmas.Str.Pattern.{split_parts}
 use Rattle.account.proofs.lines.cut_at_space.Goals as goal
 
 pub returns : goal.returns
-returns c = cut_from_split c.args.line.now c.split_once.result c.split_once.ensures.cases
+returns c =
+    let parts = split_parts 32 c.args.line.now c.split_once.result c.split_once.ensures.cases (lit< tt) in search rules

@@ -1,20 +1,24 @@
-use Rattle.std.proofs.Common.{vec_items, refl, ap, ◌∙◌, arith}
-use Rattle.std.proofs.lemmas.Bool.{both_ways}
-use Rattle.account.proofs.Steps.{reads_passed, reads_entry, reads_all, stops_here}
+use Rattle.std.proofs.Common.{◌≡◌, length, arith, rules}
+use Rattle.std.proofs.lemmas.Bool.Decides.{not_from_Decides}
+use Rattle.std.proofs.lemmas.List.{length-map}
+use Rattle.std.proofs.lemmas.Result.{err_from_is_err_and}
+use Rattle.account.proofs.Steps.{reads_passed, reads_entry, stops_with}
 use Rattle.account.proofs.lines.read_entries.Goals as goal
-use Rattle.account.proofs.lines.read_entries.Goals.{then-not-is_passed_over+in-Ok+in_ok-push-in-Ok, else-not-is_passed_over}
 
-pub returns-in-Err : goal.returns-in-Err
-returns-in-Err g c =
-    (c.loop-place.place, refl, stops_here g.Q.Metered.writes g.Q.Metered.heading c.args.lines.now c.loop-place.place _ c.loop-place-test.true _ _ c.loop-place.invariant c.in-Err.fault (λ passed. both_ways _ c.if-not-is_passed_over.true (c.is_passed_over.ensures.1 passed)) c.in-Err.ensures)
+pub returns-in_err-entry : goal.returns-in_err-entry
+returns-in_err-entry g c =
+    let p = err_from_is_err_and c.from_residual.result c.from_residual.ensures.1 in
+    rw (p.1, p.2) (stops_with g.Q.Metered.writes g.Q.Metered.heading c.args.lines.now c.loop-place.place-counter _ c.loop-place-test.true _ _ c.loop-place.invariant (not_from_Decides _ c.is_passed_over.ensures c.if-is_passed_over.false) c.read_entry.result c.map_err.result _ c.read_entry.ensures (search rules) c.in_err-entry.was)
+
+pub loop-place-preserved-then-is_passed_over : goal.loop-place-preserved-then-is_passed_over
+loop-place-preserved-then-is_passed_over g c =
+    reads_passed g.Q.Metered.writes g.Q.Metered.heading c.args.lines.now c.loop-place.place-counter _ c.loop-place-test.true _ _ c.loop-place.invariant (c.is_passed_over.ensures.0 c.if-is_passed_over.true)
 
 pub loop-place-preserved : goal.loop-place-preserved
 loop-place-preserved g c =
-    elim c.if-not-is_passed_over.branch [
-      | then-not-is_passed_over+in-Ok+in_ok-push-in-Ok w ↦ reads_entry g.Q.Metered.writes g.Q.Metered.heading c.args.lines.now c.loop-place.place _ c.loop-place-test.true _ _ c.loop-place.invariant w.in-Ok.entry (λ passed. both_ways _ w.if-not-is_passed_over.true (c.is_passed_over.ensures.1 passed)) w.in-Ok.ensures _ _ (ap vec_items w.entries-is ∙ w.in_ok-push-in-Ok.ensures.items) w.latest-is
-      | else-not-is_passed_over w ↦ reads_passed g.Q.Metered.writes g.Q.Metered.heading c.args.lines.now c.loop-place.place _ c.loop-place-test.true _ _ c.loop-place.invariant (c.is_passed_over.ensures.0 w.if-not-is_passed_over.false) _ _ (ap vec_items w.entries-is) w.latest-is
-    ]
+    reads_entry g.Q.Metered.writes g.Q.Metered.heading c.args.lines.now c.loop-place.place-counter _ c.loop-place-test.true _ _ c.loop-place.invariant (not_from_Decides _ c.is_passed_over.ensures c.if-is_passed_over.false) c.in_ok-entry.entry (search rules) _ (search rules)
 
 pub returns : goal.returns
 returns g c =
-    reads_all g.Q.Metered.writes g.Q.Metered.heading c.args.lines.now c.loop-place.place _ _ c.loop-place.invariant (omega arith)
+    let whole : c.loop-place.place-counter ≡ length c.args.lines.now = omega arith in
+    (c.loop-place.latest, rw (length-map, ← whole) c.loop-place.invariant)

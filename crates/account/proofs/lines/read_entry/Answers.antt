@@ -4,4 +4,4 @@ use Rattle.account.proofs.lines.read_entry.Goals as goal
 -- the entry that the line gives, for a day that is not later
 pub returns-then-day-latest : goal.returns-then-day-latest
 returns-then-day-latest g c =
-    (record { day = c.in-Some-read_day.day; amount = c.in-Some-read.amount }, search rules, search rules)
+    (record { day = c.in_ok-day-2.day; amount = c.in_ok-amount.amount }, search rules, search rules)

@@ -1,16 +1,17 @@
-use Rattle.std.proofs.Common.{arith, rules}
-use Rattle.std.proofs.lemmas.Result.{IfOk-from_err}
-use Rattle.account.proofs.Rowing.{sofar_more, sofar_all}
+use Rattle.std.proofs.Common.{◌≡◌, length, arith, rules}
+use Rattle.quantity.proofs.GroupSums.{sum_map}
+use Rattle.account.proofs.Rowing.{sofar_more}
 use Rattle.account.proofs.rows.Account.new.Goals as goal
 
-pub returns-in_err-push : goal.returns-in_err-push
-returns-in_err-push g c = IfOk-from_err c.from_residual-in_err-push.result _ (search rules)
-
-pub loop-entry-preserved : goal.loop-entry-preserved
-loop-entry-preserved g c =
-    sofar_more g.Q.Quantity.model c.args.entries.now c.loop-entry.entry-index c.entry-item.result c.loop-entry.total c.plus-total.result
-    c.loop-entry-test.true c.entry-item.is c.plus-total.ensures _ c.loop-entry.invariant _ c.in_ok-push.ensures.items
+pub loop-day-preserved : goal.loop-day-preserved
+loop-day-preserved g c =
+    sofar_more g.Q.Quantity.model c.args.entries.now c.loop-day.day-index _ c.loop-day.total c.loop-day.invariant c.loop-day-item.result c.plus-total.result c.loop-day-test.true c.loop-day-item.is c.plus-total.ensures _ c.in_ok-push.ensures.items
 
 pub returns : goal.returns
 returns g c =
-    sofar_all g.Q.Quantity.model c.args.entries.now c.loop-entry.entry-index _ _ c.loop-entry.invariant (omega arith)
+    let full : c.loop-day.day-index ≡ length c.args.entries.now = omega arith in
+    record {
+      as_many = search rules;
+      each = λ k e r h. c.loop-day.invariant.each k e r (omega arith);
+      all = rw (sum_map, ← full) c.loop-day.invariant.sum;
+    }
