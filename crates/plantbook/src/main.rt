@@ -3,81 +3,52 @@
 
 use account::month::{Month, read_month};
 use account::rows::{Account, Row};
-use anyhow::anyhow;
 use quantity::Quantity;
 use quantity::totaliser::Totaliser;
+use std::alloc::Global;
+use std::error::Error;
 use std::fmt::Display;
 use std::process::ExitCode;
+use std::rt::{Env, Files};
 use std::{env, fs, io};
 
-// A line for each day, with the running total.
-fn print_rows<Q: Quantity + Display>(rt: &HostRuntime, rows: &[Row<Q>]) -> io::Result<()> {
-    for row in rows {
-        let day = row.day;
-        let amount = row.amount;
-        let total = row.total;
-        println!(rt; "day {day}: {amount}, total {total}")?;
+// A line for each day, with the running total, and one for the month.
+fn print_account<Q: Quantity + Display>(rt: &impl Print, account: &Account<Q>) -> io::Result<()> {
+    for row in &account.rows {
+        println!(rt; "day {}: {}, total {}", row.day, row.amount, row.total)?;
     }
-    Ok(())
+    println!(rt; "month: {}", account.total)
 }
 
 // The days on which the counter rolled over.
-fn print_roll_overs(rt: &HostRuntime, rows: &[Row<Totaliser>]) -> io::Result<()> {
+fn print_roll_overs(rt: &impl Print, rows: &[Row<Totaliser>]) -> io::Result<()> {
     print!(rt; "rolled over on day:")?;
-    let mut never = true;
-    for row in rows {
-        if row.rolled_over() {
-            let day = row.day;
-            print!(rt; " {day}")?;
-            never = false;
-        }
+    for row in rows.iter().filter(|row| row.rolled_over()) {
+        print!(rt; " {}", row.day)?;
     }
-    if never {
+    if !rows.iter().any(|row| row.rolled_over()) {
         print!(rt; " none")?;
     }
     println!(rt)
 }
 
-fn print_account<Q: Quantity + Display>(rt: &HostRuntime, account: &Account<Q>) -> io::Result<()> {
-    print_rows(rt, account.rows.as_slice())?;
-    let total = account.total;
-    println!(rt; "month: {total}")
-}
-
-fn print_month(rt: &HostRuntime, month: Month) -> anyhow::Result<()> {
+fn print_month(rt: &(impl Alloc<A = Global> + Print), month: Month) -> io::Result<()> {
     match month {
         Month::Advances(entries) => {
             let account = Account::new(rt.alloc(), entries.as_slice())?;
             print_account(rt, &account)?;
-            print_roll_overs(rt, account.rows.as_slice())?;
+            print_roll_overs(rt, account.rows.as_slice())
         }
         Month::Masses(entries) => {
-            let account = Account::of_masses(rt.alloc(), entries.as_slice())?;
-            print_account(rt, &account)?;
-        }
-    }
-    Ok(())
-}
-
-// Prints the account that the text gives under its name, or says on standard error which of its lines is bad.
-fn run(rt: &HostRuntime, name: &str, text: &str) -> anyhow::Result<()> {
-    let lines: Vec<&str> = text.lines().collect(rt.alloc())?;
-    match read_month(rt.alloc(), lines.as_slice()) {
-        Ok(month) => {
-            println!(rt; "{name}")?;
-            print_month(rt, month)
-        }
-        Err(error) => {
-            eprintln!(rt; "plantbook: {name}: {error}")?;
-            Err(anyhow!("the text is not read"))
+            print_account(rt, &Account::of_masses(rt.alloc(), entries.as_slice())?)
         }
     }
 }
 
-// Runs the text that was read, or says on standard error why there is none.
-fn run_input(rt: &HostRuntime, name: &str, text: io::Result<String>) -> anyhow::Result<()> {
-    match text {
-        Ok(text) => run(rt, name, text.as_str()),
+// What was read of the input with this name. If it is an error, that is first said on standard error.
+fn reported<T, E: Error>(rt: &impl Eprint, name: &str, read: Result<T, E>) -> anyhow::Result<T> {
+    match read {
+        Ok(value) => Ok(value),
         Err(error) => {
             eprintln!(rt; "plantbook: {name}: {error}")?;
             Err(error.into())
@@ -85,17 +56,30 @@ fn run_input(rt: &HostRuntime, name: &str, text: io::Result<String>) -> anyhow::
     }
 }
 
-fn run_inputs(rt: &HostRuntime) -> anyhow::Result<()> {
+// Prints the account that the text gives, under its name.
+fn run(
+    rt: &(impl Alloc<A = Global> + Print + Eprint),
+    name: &str,
+    text: io::Result<String>,
+) -> anyhow::Result<()> {
+    let text = reported(rt, name, text)?;
+    let lines: Vec<&str> = text.lines().collect(rt.alloc())?;
+    let month = reported(rt, name, read_month(rt.alloc(), lines.as_slice()))?;
+    println!(rt; "{name}")?;
+    print_month(rt, month)?;
+    Ok(())
+}
+
+fn run_inputs(
+    rt: &(impl Alloc<A = Global> + Print + Eprint + Input + Env + Files),
+) -> anyhow::Result<()> {
     let words: Vec<String> = env::args(rt)?.collect(rt.alloc())?;
     if words.len() <= 1 {
-        return run_input(
-            rt,
-            "standard input",
-            io::read_to_string(rt.alloc(), rt.stdin()),
-        );
+        let text = io::read_to_string(rt.alloc(), rt.reader());
+        return run(rt, "standard input", text);
     }
     for path in words.iter().skip(1) {
-        run_input(rt, path.as_str(), fs::read_to_string(rt, path.as_str()))?;
+        run(rt, path.as_str(), fs::read_to_string(rt, path.as_str()))?;
     }
     Ok(())
 }
