@@ -4,7 +4,7 @@
 -- running m es k     the sum of the amounts of the first k entries
 -- RowOf m es k e r   r is the row of the entry e at place k: its day and amount, and the running totals around it
 -- Keeps m es rs t    rs has a row for each entry, in order, and t is the sum of all amounts
-use Rattle.std.specs.Prelude.{◌≡◌, ℕ, ◌+◌, ◌<◌, List, map, length, slice_index_or}
+use Rattle.std.specs.Prelude.{◌≡◌, ℕ, ◌+◌, List, Some, map, length, slice_get, slice_index_or}
 use Rattle.quantity.specs.Model.{Model}
 use Rattle.quantity.specs.Sums.{sum, sum_all}
 use Rattle.account.specs.declared.entry.Entry.{Entry}
@@ -25,5 +25,5 @@ module _ {Q : Type 0} (m : Model Q) where
 
   pub record Keeps (es : List (Entry Q)) (rs : List (Row Q)) (t : Q) : Type 0 where
     pub as_many : length rs ≡ length es
-    pub each : (k : ℕ) (e : Entry Q) (r : Row Q) → k < length es → RowOf es k (slice_index_or es k e) (slice_index_or rs k r)
+    pub each : (k : ℕ) (e : Entry Q) (r : Row Q) → slice_get es k ≡ Some e → slice_get rs k ≡ Some r → RowOf es k e r
     pub all : m.means t ≡ sum_all m.group (amounts es)

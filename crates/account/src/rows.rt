@@ -1,6 +1,5 @@
 //! The account itself: a row for each entry, with the running total.
-ghost use Rattle.std.specs.Prelude.{◌≡◌, ◌≤◌, ◌↔◌, map, length, IfOk, IsTrue};
-ghost use Rattle.std.specs.List.{AllByRecursion};
+ghost use Rattle.std.specs.Prelude.{◌≡◌, ◌≤◌, ◌↔◌, All, map, length, IfOk, IsTrue};
 ghost use Rattle.quantity.specs.Group.{whole};
 ghost use Rattle.quantity.specs.Masses.{mass_model, Bounded};
 ghost use Rattle.quantity.specs.Sums.{sum_all};
@@ -67,7 +66,7 @@ impl Account<Mass> {
     pub fn of_masses(heap: Global, entries: &[Entry<Mass>]) -> Result<Account<Mass>, AllocError>
         ensures kept { IfOk result (λ a. Keeps mass_model entries.now a.rows.items a.total) }
         ensures exact { IfOk result (λ a. length entries.now ≤ 1024
-            → AllByRecursion (λ e. Bounded e.amount.0) entries.now
+            → All (λ e. Bounded e.amount.0) entries.now
             → a.total.0 ≡ sum_all whole (map (λ e. e.amount.0) entries.now)) }
     {
         Account::new(heap, entries)

@@ -12,6 +12,6 @@ returns g c =
     let full : c.loop-day.day-index ≡ length c.args.entries.now = omega arith in
     record {
       as_many = search rules;
-      each = λ k e r h. c.loop-day.invariant.each k e r (omega arith);
+      each = c.loop-day.invariant.each;
       all = rw (sum_map, ← full) c.loop-day.invariant.sum;
     }
