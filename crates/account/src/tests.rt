@@ -17,7 +17,7 @@ fn a_counter_rolls_over(rt: HostRuntime) -> Result<(), Fail> {
     let Month::Advances(entries) = read_month(heap, &lines)? else {
         return Err(Fail::new("these are advances"));
     };
-    let account = Account::new(heap, entries.as_slice())?;
+    let account = Account::new(heap, &entries)?;
     assert_eq!(rt; account.rows.len(), 3);
     assert_eq!(rt; account.rows[1].day, 2);
     assert_eq!(rt; account.rows[1].total.0, 10);
@@ -35,7 +35,7 @@ fn masses_have_a_heading(rt: HostRuntime) -> Result<(), Fail> {
     };
     assert_eq!(rt; entries.len(), 2);
     assert_eq!(rt; entries[0].amount.0, -1_000_000_000_000);
-    assert_eq!(rt; Account::of_masses(heap, entries.as_slice())?.total.0, 0);
+    assert_eq!(rt; Account::of_masses(heap, &entries)?.total.0, 0);
     Ok(())
 }
 
@@ -55,7 +55,7 @@ fn the_first_bad_line_is_named(rt: HostRuntime) -> Result<(), Fail> {
     ] {
         let lines: Vec<&str> = text.lines().collect(heap)?;
         assert_eq!(rt;
-            refusal(heap, lines.as_slice())?,
+            refusal(heap, &lines)?,
             ReadError::Line { number, fault },
             "in {text:?}"
         );

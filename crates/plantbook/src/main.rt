@@ -35,13 +35,11 @@ fn print_roll_overs(rt: &impl Print, rows: &[Row<Totaliser>]) -> io::Result<()> 
 fn print_month(rt: &(impl Alloc<A = Global> + Print), month: Month) -> io::Result<()> {
     match month {
         Month::Advances(entries) => {
-            let account = Account::new(rt.alloc(), entries.as_slice())?;
+            let account = Account::new(rt.alloc(), &entries)?;
             print_account(rt, &account)?;
-            print_roll_overs(rt, account.rows.as_slice())
+            print_roll_overs(rt, &account.rows)
         }
-        Month::Masses(entries) => {
-            print_account(rt, &Account::of_masses(rt.alloc(), entries.as_slice())?)
-        }
+        Month::Masses(entries) => { print_account(rt, &Account::of_masses(rt.alloc(), &entries)?) }
     }
 }
 
@@ -64,7 +62,7 @@ fn run(
 ) -> anyhow::Result<()> {
     let text = reported(rt, name, text)?;
     let lines: Vec<&str> = text.lines().collect(rt.alloc())?;
-    let month = reported(rt, name, read_month(rt.alloc(), lines.as_slice()))?;
+    let month = reported(rt, name, read_month(rt.alloc(), &lines))?;
     println!(rt; "{name}")?;
     print_month(rt, month)?;
     Ok(())
@@ -79,7 +77,7 @@ fn run_inputs(
         return run(rt, "standard input", text);
     }
     for path in words.iter().skip(1) {
-        run(rt, path.as_str(), fs::read_to_string(rt, path.as_str()))?;
+        run(rt, path, fs::read_to_string(rt, path))?;
     }
     Ok(())
 }
