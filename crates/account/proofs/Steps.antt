@@ -16,7 +16,7 @@ module _ {Q : Type 0} (W : List ℕ → Q → Type 0) (H : List ℕ) (xs : List 
   pub reads_passed : Passed H n (get_or xs n d).now → Reads W H (texts xs) (n + 1) es c
   reads_passed passed = rw (add-one, text_at) (inl (passed, before))
 
-  module _ (no_pass : Passed H n (get_or xs n d).now → ⊥) where
+  module _ (no_pass : ¬ Passed H n (get_or xs n d).now) where
     pub reads_entry : (e : Entry Q) → Gives W (get_or xs n d).now e × (c < e.day) → (fs : List (Entry Q)) → fs ≡ es ++ (e ∷ []) → Reads W H (texts xs) (n + 1) fs e.day
     reads_entry e h fs is =
         rw (add-one, text_at) (inr (no_pass, (es, c, e, before, h.0, h.1, is, refl)))

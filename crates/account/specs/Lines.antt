@@ -48,8 +48,8 @@ module _ {Q : Type 0} (W : List ℕ → Q → Type 0) where
 
   abbrev pub NoEntry : List ℕ → ℕ → Fault → Type 0
   NoEntry l c NoSpace = Spaceless l
-  NoEntry l c BadDay = (d a : List ℕ) × Cut l d a × ((n : ℕ) → WritesDay d n → ⊥)
-  NoEntry l c BadAmount = (d a : List ℕ) × Cut l d a × ((n : ℕ) × WritesDay d n) × ((q : Q) → W a q → ⊥)
+  NoEntry l c BadDay = (d a : List ℕ) × Cut l d a × ((n : ℕ) → ¬ WritesDay d n)
+  NoEntry l c BadAmount = (d a : List ℕ) × Cut l d a × ((n : ℕ) × WritesDay d n) × ((q : Q) → ¬ W a q)
   NoEntry l c NotLater = (e : Entry Q) × Gives l e × (e.day ≤ c)
 
   module _ (H : List ℕ) where
@@ -57,7 +57,7 @@ module _ {Q : Type 0} (W : List ℕ → Q → Type 0) where
     Reads ls zero es c = (es ≡ []) × (c ≡ 0)
     Reads ls (suc n) es c =
         (Passed H n (slice_index_or ls n []) × Reads ls n es c)
-        ⊎ ((Passed H n (slice_index_or ls n []) → ⊥) × ((before : List (Entry Q)) × (b : ℕ) × (e : Entry Q) × Reads ls n before b
+        ⊎ ((¬ Passed H n (slice_index_or ls n [])) × ((before : List (Entry Q)) × (b : ℕ) × (e : Entry Q) × Reads ls n before b
         × Gives (slice_index_or ls n []) e × (b < e.day) × (es ≡ before ++ (e ∷ [])) × (c ≡ e.day)))
 
     abbrev pub Entries : List (List ℕ) → List (Entry Q) → Type 0
@@ -65,7 +65,7 @@ module _ {Q : Type 0} (W : List ℕ → Q → Type 0) where
 
     pub record Stops (ls : List (List ℕ)) (n : ℕ) (f : Fault) : Type 0 where
       pub inside : n < length ls
-      pub not_passed : Passed H n (slice_index_or ls n []) → ⊥
+      pub not_passed : ¬ Passed H n (slice_index_or ls n [])
       pub entries : List (Entry Q)
       pub latest : ℕ
       pub before : Reads ls n entries latest

@@ -16,8 +16,8 @@ Headed H ls = slice_get ls 0 ≡ Some H
 
 abbrev pub MonthOf : List (List ℕ) → Month → Type 0
 MonthOf ls (Masses v) = Headed mass_heading ls × Entries WritesMass mass_heading ls (vec_items v)
-MonthOf ls (Advances v) = (Headed mass_heading ls → ⊥) × Entries WritesAdvance totaliser_heading ls (vec_items v)
+MonthOf ls (Advances v) = (¬ Headed mass_heading ls) × Entries WritesAdvance totaliser_heading ls (vec_items v)
 
 pub record NoMonth (ls : List (List ℕ)) (e : ReadError) : Type 0 where
   pub masses : Headed mass_heading ls → NotRead WritesMass mass_heading ls e
-  pub advances : (Headed mass_heading ls → ⊥) → NotRead WritesAdvance totaliser_heading ls e
+  pub advances : ¬ Headed mass_heading ls → NotRead WritesAdvance totaliser_heading ls e

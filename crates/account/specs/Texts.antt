@@ -29,4 +29,4 @@ abbrev pub WritesMass : List ℕ → Mass → Type 0
 WritesMass bs m = WritesSigned bs m.0 × Bounded m.0
 
 abbrev pub Finds : {A : Type 0} → (A → Type 0) → Option A → Type 0
-Finds {A} P r = MatchOption r ((a : A) → P a → ⊥) P
+Finds {A} P r = MatchOption r ((a : A) → ¬ P a) P
