@@ -1,6 +1,5 @@
 -- The computed parts, sides, links and classes are those of the definitions. Assumes nothing.
-use Rattle.std.proofs.Common.{◌≡◌, ℕ, ◌<◌, ◌≤◌, Bool, true, false, ◌↔◌, IsTrue, ap₂, arith}
-use Rattle.std.proofs.lemmas.Bool.{false_from_ne_true}
+use Rattle.std.proofs.Common.{◌≡◌, ℕ, ◌<◌, ◌≤◌, Bool, true, ◌↔◌, IsTrue, ap₂, arith}
 use Rattle.std.proofs.lemmas.Bool.Decides.{nat_tests}
 use Rattle.quantity.specs.Group.{Group}
 use Rattle.flows.specs.Classes.{EndsInOnePart, Is}
@@ -19,10 +18,6 @@ use Rattle.flows.proofs.Sums.{sum_short}
 -- a drawing's own size is above all its streams
 pub above_size : (D : Drawing) → Above D D.size
 above_size D = record { size = omega arith; unused = λ k le us. omega arith }
-
--- a test that leads to a contradiction fails
-pub fails : (b : Bool) → ¬ (b ≡ true) → b ≡ false
-fails = false_from_ne_true
 
 module _ (D : Drawing) (R : ℕ → Bool) (m : ℕ) (above : Above D m) (within : Within D) where
   others_labels : (n : ℕ) → Labels D (Others (Unread D R) n) (label D (unread_but D R n) m)

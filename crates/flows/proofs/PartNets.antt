@@ -1,5 +1,5 @@
 -- Net amounts of parts: a plant is consistent, or a part is in dispute. Assumes nothing.
-use Rattle.std.proofs.Common.{◌≡◌, ℕ, zero, suc, ◌<◌, ◌≤◌, Bool, true, false, ◌⊎◌, Option, sym, ◌∙◌, inl, inr, ⊎_elim, arith}
+use Rattle.std.proofs.Common.{◌≡◌, ℕ, zero, suc, ◌<◌, ◌≤◌, ◌==◌, Bool, true, false, ◌⊎◌, Option, sym, ◌∙◌, inl, inr, ⊎_elim, arith}
 use Rattle.std.proofs.lemmas.Bool.{cases_eq, cases_Bool, or_cases, or_parts}
 use Rattle.std.proofs.lemmas.Bool.Decides.{same_from_decides}
 use Rattle.quantity.specs.Group.{Group}
@@ -9,9 +9,11 @@ use Rattle.flows.specs.Decisions.{Above, part, undisputed, all_undisputed, consi
 use Rattle.flows.specs.Drawings.{Drawing, Within}
 use Rattle.flows.specs.Filling.{Fillable}
 use Rattle.flows.specs.Flows.{net, read_set, readings}
+use Rattle.flows.specs.Labels.{Labels}
 use Rattle.flows.specs.Parts.{Unread, Part}
 use Rattle.flows.proofs.Balances.{parts_fillable}
 use Rattle.flows.proofs.Decisions.{above_size, part_is, net_short}
+use Rattle.flows.proofs.Merging.{labels_part}
 use Rattle.flows.proofs.Nets.{net_by_streams}
 
 -- what cannot fail at any number below n cannot fail at all of them
@@ -50,6 +52,14 @@ module _ (G : Group) (D : Drawing) (within : Within D) where
         (λ each. no_flow (λ v lv C p o.
         part_net (Unread D (read_set t)) (readings G t) v C (own v) p (own_is v lv)
         ∙ each v (omega arith) (sym (part_alike (Unread D (read_set t)) v C (own v) p (own_is v lv) 0 (omega arith)) ∙ o)))
+
+    -- the test by labels
+    pub consistent_from_labels : (label : ℕ → ℕ) → Labels D (Unread D (read_set t)) label
+        → ((v : ℕ) → v ≤ D.units → (label 0 == label v) ≡ false → net_reading G D t (λ w. label w == label v) ≡ G.zero) → Consistent G D t
+    consistent_from_labels label h e v lv C p o =
+        let q = labels_part D (Unread D (read_set t)) label h v lv in
+        part_net (Unread D (read_set t)) (readings G t) v C (λ w. label w == label v) p q
+        ∙ e v lv (sym (part_alike (Unread D (read_set t)) v C (λ w. label w == label v) p q 0 (omega arith)) ∙ o)
 
     -- the computed test
     module _ (s : Comparison G) (m : ℕ) (above : Above D m) where

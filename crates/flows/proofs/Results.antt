@@ -1,12 +1,13 @@
 -- The theorems about flows. Assumes nothing.
 use Rattle.std.proofs.Common.{◌≡◌, ℕ, Bool, not, ◌&&◌, ◌⊎◌, ◌==◌, Option, sym, refl, ap, ◌∙◌, inl, inr, ⊎_elim, arith}
-use Rattle.std.proofs.lemmas.Bool.{cases_Bool, cases_lt, iff_false}
+use Rattle.std.proofs.lemmas.Bool.{cases_Bool, cases_eq, cases_lt, iff_false}
 use Rattle.std.proofs.lemmas.Bool.Decides.{nat_tests}
 use Rattle.quantity.specs.Group.{Group}
-use Rattle.flows.specs.Consistency.{net_reading, Inconsistent, CutSum}
+use Rattle.flows.specs.Consistency.{net_reading, Inconsistent, Consistent, CutSum}
 use Rattle.flows.specs.Decisions.{Above, unread, linked, from_side, class, cut_sum}
 use Rattle.flows.specs.declared.class.Class.TheVariants.{OutOfUse}
 use Rattle.flows.specs.Drawings.{Drawing, InUse, Within}
+use Rattle.flows.specs.Filling.{Fillable}
 use Rattle.flows.specs.Flows.{net, PossibleBut, SomeFlow, read_set, readings}
 use Rattle.flows.specs.Parts.{Unread, Others, Joined, here, along, Uncrossed, Linked}
 use Rattle.flows.specs.Theorems.{SomeFlowExactlyIfConsistent, SomeConflict, ConflictExcludesFlows, FlowOrConflict, ConflictExactlyIfNoFlow, ZeroOrAnything, TwoSides, ObservableCarriesItsCutSum, RedundantCarriesOneAmount, UnobservableCarriesAnything, JustMeasuredCarriesAnything, ExactlyOneClass}
@@ -14,7 +15,7 @@ use Rattle.flows.proofs.Balances.{balanced_net, balanced_plus, balanced_differen
 use Rattle.flows.proofs.Cuts.{side_amount, zero_at, anything_at}
 use Rattle.flows.proofs.Decisions.{above_size, side_is, linked_decides, class_decides, net_short, one_part_exactly_if_linked}
 use Rattle.flows.proofs.PartNets.{fill_consistent, not_both, not_neither, one_of_both}
-use Rattle.flows.proofs.Filling.{flow_exists}
+use Rattle.flows.proofs.Filling.{flow_exists, fill_free}
 use Rattle.flows.proofs.Groups.{made_up, minus_difference, same_from_difference, unit_r}
 use Rattle.flows.proofs.Joins.{joined_map, joined_trans, joined_sym, joined_ends, part_uncrossed}
 use Rattle.flows.proofs.Nets.{net_same}
@@ -42,6 +43,12 @@ module _ (G : Group) where
         let s = flow_exists G D w (unread D (read_set t)) (λ k _ e. grind arith) (readings G t) (λ C c. fill_consistent G D w t h C (λ k u. c k (grind arith))) in
         (s.0, record { balanced = s.1; agrees = λ k us x e. grind (arith, s.2 k) }),
   )
+
+  -- the readings of a consistent plant, with any amount at a linked stream n, can be filled in on the unread streams other than n
+  pub fill_rival : (D : Drawing) → Within D → (t : ℕ → Option Element) → Consistent G D t → (n : ℕ) → InUse D n → Linked D (read_set t) n
+      → (r : ℕ → Element) → ((k : ℕ) → InUse D k → ¬ (n ≡ k) → r k ≡ readings G t k) → Fillable G D (Others (Unread D (read_set t)) n) r
+  fill_rival D w t h n us j r same =
+      fill_free G D (Unread D (read_set t)) (Others (Unread D (read_set t)) n) n (λ k u. ⊎_elim inr (λ d. inl (u, d)) (cases_eq k n)) us (readings G t) r j same (fill_consistent G D w t h)
 
   conflict_excludes : (D : Drawing) → Within D → (t : ℕ → Option Element) → SomeConflict G D t → ¬ SomeFlow G D t
   conflict_excludes D w t (C, c) flow = c.not_zero (flow_net D w t flow C c.only_read_cross)
