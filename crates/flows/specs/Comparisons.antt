@@ -3,7 +3,7 @@
 -- Comparison G           a test for sameness of elements, and that it is right
 -- compare_residues m h   residues modulo m are compared as numbers
 -- compare_pairs a b      pairs are compared part by part
-use Rattle.std.specs.Prelude.{◌≡◌, ℕ, ◌<◌, Bool, ◌&&◌, Decides, ◌==◌}
+use Rattle.std.specs.Prelude.{◌≡◌, ℕ, ◌<◌, Bool, ◌&&◌, IsTrue, ◌↔◌, ◌==◌}
 use Rattle.std.proofs.Common.{ap, eqb-true, eq-eqb}
 use Rattle.quantity.specs.Group.{Group, product}
 use Rattle.quantity.specs.Modulo.{residue_path, modulo}
@@ -11,7 +11,7 @@ use Rattle.std.proofs.lemmas.Bool.{and_parts, and_from}
 
 pub record Comparison (G : Group) : Type 0 where
   pub same : G.Element → G.Element → Bool
-  pub decides : (x y : G.Element) → Decides (same x y) (x ≡ y)
+  pub decides : (x y : G.Element) → IsTrue (same x y) ↔ (x ≡ y)
 
 abbrev pub compare_residues : (m : ℕ) (some : 0 < m) → Comparison (modulo m some)
 compare_residues m some = record {

@@ -19,7 +19,7 @@
 -- undisputed G s D t m v      whether the part of v has place 0, or the net amount zero
 -- all_undisputed G s D t m n  .. for each unit below n
 -- consistent G s D t m        .. for every unit
-use Rattle.std.specs.Prelude.{ℕ, zero, suc, ◌≤◌, Bool, true, cond, not, ◌&&◌, ◌||◌, List, map, Option, ◌==◌, slice_index}
+use Rattle.std.specs.Prelude.{ℕ, zero, suc, ◌≤◌, Bool, true, if◌then◌else◌, not, ◌&&◌, ◌||◌, List, map, Option, ◌==◌, slice_index}
 use Rattle.std.specs.List.{range_with_len}
 use Rattle.quantity.specs.Group.{Group}
 use Rattle.flows.specs.Comparisons.{Comparison}
@@ -39,11 +39,11 @@ abbrev pub unread_but : Drawing → (ℕ → Bool) → ℕ → ℕ → Bool
 unread_but D R n k = unread D R k && not (k == n)
 
 abbrev pub merged : ℕ → ℕ → List ℕ → List ℕ
-merged a b xs = map (λ x. cond (x == slice_index xs b) (slice_index xs a) x) xs
+merged a b xs = map (λ x. if x == slice_index xs b then slice_index xs a else x) xs
 
 abbrev pub labels : Drawing → (ℕ → Bool) → ℕ → List ℕ
 labels D e zero = range_with_len 0 (suc D.units)
-labels D e (suc n) = cond (e n) (merged (D.from n) (D.to n) (labels D e n)) (labels D e n)
+labels D e (suc n) = if e n then merged (D.from n) (D.to n) (labels D e n) else labels D e n
 
 abbrev pub label : Drawing → (ℕ → Bool) → ℕ → ℕ → ℕ
 label D e n w = slice_index (labels D e n) w
@@ -52,9 +52,9 @@ abbrev pub linked : Drawing → (ℕ → Bool) → ℕ → ℕ → Bool
 linked D R m n = label D (unread_but D R n) m (D.from n) == label D (unread_but D R n) m (D.to n)
 
 abbrev pub class : Drawing → (ℕ → Bool) → ℕ → ℕ → Class
-class D R m n = cond (D.used n)
-    (cond (R n) (cond (linked D R m n) JustMeasured Redundant) (cond (linked D R m n) Unobservable Observable))
-    OutOfUse
+class D R m n =
+    if D.used n then (if R n then (if linked D R m n then JustMeasured else Redundant) else (if linked D R m n then Unobservable else Observable))
+    else OutOfUse
 
 abbrev pub part : Drawing → (ℕ → Bool) → ℕ → ℕ → ℕ → Bool
 part D R m v w = label D (unread D R) m w == label D (unread D R) m v

@@ -22,13 +22,13 @@
 -- read_set t            the numbers that have a reading
 -- amount G o            a reading as an amount, zero where there is none
 -- readings G t          the readings as amounts
-use Rattle.std.specs.Prelude.{◌≡◌, ℕ, ◌≤◌, Bool, true, cond, not, ◌&&◌, is_some, Some, None, Option, nat_eq}
+use Rattle.std.specs.Prelude.{◌≡◌, ℕ, ◌≤◌, Bool, true, if◌then◌else◌, not, ◌&&◌, is_some, Some, None, Option, nat_eq}
 use Rattle.quantity.specs.Group.{Group}
 use Rattle.quantity.specs.Sums.{sum}
 use Rattle.flows.specs.Drawings.{Drawing, InUse}
 
 abbrev pub pick : (G : Group) → Bool → G.Element → G.Element
-pick G b x = cond b x G.zero
+pick G b x = if b then x else G.zero
 
 abbrev pub total_below : (G : Group) → Drawing → ℕ → (ℕ → Bool) → (ℕ → G.Element) → G.Element
 total_below G D m test f = sum G m (λ k. pick G (D.used k && test k) (f k))

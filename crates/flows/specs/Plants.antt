@@ -8,7 +8,7 @@
 -- drawing u ends      the drawing of the plant with units 0 to u and the ends that each number has; a number with ends is in
 --                     use, and unit v is place v. This alone says at which places a stream ends.
 -- readings_of i a     the reading of each number: its amount by a, or none while i says that the number is isolated
-use Rattle.std.specs.Prelude.{ℕ, suc, ◌≤◌, Bool, cond, ◌&&◌, is_some, Some, None, Option, nat_le}
+use Rattle.std.specs.Prelude.{ℕ, suc, ◌≤◌, Bool, if◌then◌else◌, ◌&&◌, is_some, Some, None, Option, nat_le}
 use Rattle.flows.specs.declared.ends.Ends.{Ends}
 use Rattle.flows.specs.Drawings.{Drawing}
 
@@ -39,4 +39,4 @@ drawing u ends = record {
 }
 
 abbrev pub readings_of : {X : Type 0} → (ℕ → Bool) → (ℕ → Option X) → ℕ → Option X
-readings_of isolated amounts n = cond (isolated n) None (amounts n)
+readings_of isolated amounts n = if isolated n then None else amounts n

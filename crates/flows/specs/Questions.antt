@@ -18,7 +18,7 @@
 -- Rivalled              what an accepted rival writes: the plant is consistent, and the two such flows differ at n
 -- Disputed              what an accepted dispute answers and marks
 -- Surveys, Values, Rivals, Disputes   the whole answer of each question, refusals included; a refusal leaves the tables
-use Rattle.std.specs.Prelude.{◌≡◌, ℕ, zero, suc, ◌+◌, ◌<◌, ◌≤◌, Bool, false, cond, ◌⊎◌, Some, None, Option, Result, ◌==◌}
+use Rattle.std.specs.Prelude.{◌≡◌, ℕ, zero, suc, ◌+◌, ◌<◌, ◌≤◌, Bool, false, if◌then◌else◌, ◌⊎◌, Some, None, Option, Result, ◌==◌}
 use Rattle.std.specs.Option.{option_map}
 use Rattle.quantity.specs.Model.{Model}
 use Rattle.flows.specs.Classes.{Is, byte}
@@ -42,7 +42,7 @@ meant m a = option_map m.means a
 
 abbrev pub how_many : (ℕ → Bool) → ℕ → ℕ
 how_many p zero = 0
-how_many p (suc n) = how_many p n + cond (p n) 1 0
+how_many p (suc n) = how_many p n + (if p n then 1 else 0)
 
 abbrev pub holds : Option ℕ → ℕ → Bool
 holds (Some x) b = x == b

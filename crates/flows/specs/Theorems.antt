@@ -32,7 +32,7 @@
 -- RivalAnswersAgree m                      two answers that rival may give are both accepted or refused by one number, and the
 --                                          places of numbers out of use hold the same
 -- DisputeAnswersAgree m                    two answers that dispute may give mean the same, and the tables are one
-use Rattle.std.specs.Prelude.{◌≡◌, ℕ, suc, ◌<◌, ◌≤◌, Bool, true, false, not, ◌⊎◌, ◌↔◌, Decides, Option, Result}
+use Rattle.std.specs.Prelude.{◌≡◌, ℕ, suc, ◌<◌, ◌≤◌, Bool, true, false, not, ◌⊎◌, ◌↔◌, IsTrue, Option, Result}
 use Rattle.quantity.specs.Group.{Group}
 use Rattle.quantity.specs.Model.{Model}
 use Rattle.flows.specs.Classes.{Is}
@@ -112,8 +112,8 @@ ExactlyOneClass = (D : Drawing) → Within D → (R : ℕ → Bool) (n : ℕ) �
 pub record Decided (G : Group) (D : Drawing) (t : ℕ → Option G.Element) (m : ℕ) : Type 0 where
   pub class : (n : ℕ) → n < D.size → (c : Class) → Is D (read_set t) c n ↔ (c ≡ computed.class D (read_set t) m n)
   pub cut_sum : (n : ℕ) → InUse D n → (x : G.Element) → CutSum G D t n x ↔ (x ≡ computed.cut_sum G D t m n)
-  pub consistent : (s : Comparison G) → Decides (computed.consistent G s D t m) (Consistent G D t)
-  pub inconsistent : (s : Comparison G) → Decides (not (computed.consistent G s D t m)) (Inconsistent G D t)
+  pub consistent : (s : Comparison G) → IsTrue (computed.consistent G s D t m) ↔ Consistent G D t
+  pub inconsistent : (s : Comparison G) → IsTrue (not (computed.consistent G s D t m)) ↔ Inconsistent G D t
 
 abbrev pub DecisionsAreRight : Group → Type 0
 DecisionsAreRight G = (D : Drawing) → Within D → (t : ℕ → Option G.Element) (m : ℕ) → computed.Above D m → Decided G D t m

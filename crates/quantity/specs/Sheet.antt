@@ -25,7 +25,7 @@ abbrev pub OnlyFor : {Q : Type 0} → Model Q → SheetForm Q → Q → List ℕ
 OnlyFor m f a bs = StandFor m f bs a × ((cs : List ℕ) → Eight cs → StandFor m f cs a → cs ≡ bs)
 
 abbrev pub BytesOf : {Q : Type 0} → Model Q → SheetForm Q → Q → Option (List ℕ) → Type 0
-BytesOf m f a r = MatchOption r ((bs : List ℕ) → Eight bs → StandFor m f bs a → ⊥) (λ bs. OnlyFor m f a bs)
+BytesOf m f a r = MatchOption r ((bs : List ℕ) → Eight bs → ¬ StandFor m f bs a) (λ bs. OnlyFor m f a bs)
 
 abbrev pub mass_form : SheetForm Mass
 mass_form = record {
