@@ -12,7 +12,7 @@ use quantity::totaliser::Totaliser;
 use std::alloc::Global;
 
 /// The entries of a month.
-#[derive(Drop)]
+#[derive(Debug, Drop)]
 pub enum Month {
     /// The advances of a six-digit roll-over counter.
     Advances(Vec<Entry<Totaliser>>),

@@ -1,4 +1,4 @@
-//! What the calls of a plant book share: the numbers that they take, how they answer, and why they are refused.
+//! What the calls of a plant book share: why they are refused, and the number that each refusal gives.
 #![tactic(auto)]
 
 pub mod fault;
