@@ -11,7 +11,7 @@ import sys
 KEYWORDS = set("as break const continue else enum false fn for if impl in let loop match mut pub ref return self Self struct true use while Ok Err Some None".split())
 WORD = re.compile(r'//[^\n]*|"(?:[^"\\]|\\.)*"|[A-Za-z_][A-Za-z0-9_]*|[0-9][A-Za-z0-9_]*|\S')
 CLAUSE = re.compile(r'\b(?:requires|ensures|ghost)\b[^{;]*\{')
-ITEM = re.compile(r'(?:\bfn\s+(\w+)|\benum\s+(\w+)|\bstruct\s+(\w+)|\bimpl\b([^{]*))')
+ITEM = re.compile(r'\bfn\s+(\w+)|\benum\s+(\w+)|\bstruct\s+(\w+)|^impl\b([^{]*)', re.M)
 
 
 def braced(text, start):

@@ -61,6 +61,7 @@ impl<Q: Quantity> Account<Q> {
 }
 
 impl Account<Mass> {
+    // It stands beside `new`, which sees an amount only by the element that it means and can promise nothing of grams.
     /// The account of masses. Of at most 1,024 masses within 10^12 grams either way its total is their sum over the whole
     /// numbers: nothing has wrapped.
     pub fn of_masses(heap: Global, entries: &[Entry<Mass>]) -> Result<Account<Mass>, AllocError>

@@ -65,6 +65,7 @@ impl Fault {
     }
 }
 
+// An impl for each layer, by hand: a derive would not say in the contract which fault it gives.
 impl From<PlantFault> for Fault {
     ghost from_gives = { λ f r. r ≡ OfPlant f };
 

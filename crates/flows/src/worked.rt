@@ -54,6 +54,7 @@ pub struct WorkedStream<Q> {
 }
 
 /// A plant with streams among the numbers 1 to 5, and what each question gives on it where its tables are long enough.
+// `Drop` and not `Copy`: a derived copy owes that five rows of any quantity fit the memory, which is not proved.
 #[derive(Drop)]
 pub struct WorkedPlant<Q> {
     /// The units are 0 to this.
@@ -81,6 +82,8 @@ fn checked(plant: Worked) -> Worked
     plant
 }
 
+// The rows are macros, so that the checker sees each plant as one literal and computes it. With functions for rows it gives
+// up on the larger plants.
 /// What a plant shows of a stream number in use: the ends of the stream, the amount in the source, and what value and rival
 /// give.
 macro_rules! stream {

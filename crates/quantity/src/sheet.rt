@@ -12,7 +12,8 @@ use crate::totaliser::{MODULUS, Totaliser};
 /// A quantity that can stand in a sheet.
 ///
 /// An implementation gives its `form`: the code that names the quantity in a sheet's head, and the amount that eight
-/// bytes hold, none where they are outside its bounds.
+/// bytes hold, none where they are outside its bounds. The code is a byte of the sheet, and a type has one.
+// Bytes outside the bounds have no amount, which is no error with a reason: so `from_bytes` and not `TryFrom`.
 pub trait SheetQuantity: Quantity {
     ghost form: { SheetForm Self };
 

@@ -19,6 +19,7 @@ pub fn total<Q: Quantity>(amounts: &[Q]) -> Q
     sum
 }
 
+// It stands beside `total`, which sees an amount only by the element that it means and can promise nothing of grams.
 /// The sum of masses, modulo 2^64. Of at most 1,024 masses within 10^12 grams either way it is their sum over the whole
 /// numbers: nothing has wrapped.
 pub fn total_mass(masses: &[Mass]) -> Mass
