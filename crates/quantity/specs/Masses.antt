@@ -4,10 +4,13 @@
 -- grams z           the count that z grams mean
 -- mass_model        what a mass means
 -- components_model  what a record of four masses means
+-- components_text   the four counts of a record in decimal, a space (the byte 32) between two
 -- bound             the largest count of grams, either way, that a sheet holds: 10^12
 -- bounded z         whether z grams are within the bound
 -- Bounded z         they are
-use Rattle.std.specs.Prelude.{◌≡◌, ℕ, ◌^◌, Bool, true, ◌&&◌, ℤ, pos, neg_ℤ, int_le}
+use Rattle.std.specs.Prelude.{◌≡◌, ℕ, ◌^◌, Bool, true, ◌&&◌, List, [], ◌∷◌, map, ℤ, pos, neg_ℤ, int_le}
+use Rattle.std.specs.List.{join_with_byte}
+use Rattle.std.specs.Fmt.{signed_decimal}
 use Rattle.std.proofs.Common.{lit<}
 use Rattle.quantity.specs.declared.components.Components.{Components}
 use Rattle.quantity.specs.declared.mass.Mass.{Mass}
@@ -29,6 +32,10 @@ components_model = record {
   group = product (product counts counts) (product counts counts);
   means = λ c. ((grams c.first.0, grams c.second.0), (grams c.third.0, grams c.fourth.0));
 }
+
+abbrev pub components_text : Components → List ℕ
+components_text c =
+    join_with_byte 32 (map (λ m. signed_decimal m.0) (c.first ∷ c.second ∷ c.third ∷ c.fourth ∷ []))
 
 abbrev pub bound : ℕ
 bound = 1000000000000

@@ -1,7 +1,6 @@
 //! Components: four masses side by side.
-ghost use Rattle.std.specs.Prelude.{◌++◌, Some, codes};
-ghost use Rattle.std.specs.Fmt.{signed_decimal};
-ghost use Rattle.quantity.specs.Masses.{components_model};
+ghost use Rattle.std.specs.Prelude.{Some};
+ghost use Rattle.quantity.specs.Masses.{components_model, components_text};
 
 use crate::Quantity;
 use crate::mass::Mass;
@@ -86,7 +85,7 @@ impl Quantity for Components {
 
 /// The four masses in decimal, a space between two.
 impl fmt::Display for Components {
-    ghost output = { λ c. Some (signed_decimal c.first.0 ++ (codes " " ++ (signed_decimal c.second.0 ++ (codes " " ++ (signed_decimal c.third.0 ++ (codes " " ++ signed_decimal c.fourth.0)))))) };
+    ghost output = { λ c. Some (components_text c) };
 
     fn fmt<W: fmt::Write>(&self, f: &mut fmt::Formatter<W>) -> fmt::Result {
         write!(
