@@ -1,9 +1,6 @@
 //! Quantities that can stand in a sheet, as eight bytes.
-ghost use Rattle.std.specs.Prelude.{◌≡◌, true, is_some};
-ghost use Rattle.quantity.specs.Bytes.{Eight, little, signed_little};
-ghost use Rattle.quantity.specs.Masses.{mass_model, bounded};
-ghost use Rattle.quantity.specs.Sheet.{SheetForm, OnlyFor, BytesOf, mass_form, totaliser_form};
-ghost use Rattle.quantity.specs.Totalisers.{totaliser_model};
+ghost use Rattle.std.specs.Prelude.{◌≡◌, is_some};
+ghost use Rattle.quantity.specs.Sheet.{SheetForm, BytesOf, mass_form, totaliser_form};
 
 use crate::Quantity;
 use crate::mass::Mass;
