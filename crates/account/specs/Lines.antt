@@ -16,7 +16,7 @@
 --                      the lines before it are read
 -- NotRead W H ls e     what an error says of the lines: the number of the one that stops, counted from 1;
 --                      nothing where memory failed
-use Rattle.std.specs.Prelude.{◌≡◌, ℕ, zero, suc, ◌+◌, ◌<◌, ◌≤◌, ◌⊎◌, List, [], ◌∷◌, ◌++◌, map, length, ◌≢◌, slice_index, slice_index_or}
+use Rattle.std.specs.Prelude.{All, ⊤, ◌≡◌, ℕ, zero, suc, ◌+◌, ◌<◌, ◌≤◌, ◌⊎◌, List, [], ◌∷◌, ◌++◌, map, length, codes, ◌≢◌, slice_index, slice_index_or}
 use Rattle.std.specs.Borrow.{Bor}
 use Rattle.account.specs.declared.entry.Entry.{Entry}
 use Rattle.account.specs.declared.fault.Fault.{Fault}
@@ -29,13 +29,13 @@ abbrev pub texts : List (Bor (List ℕ)) → List (List ℕ)
 texts xs = map (λ x. x.now) xs
 
 abbrev pub Passed : List ℕ → ℕ → List ℕ → Type 0
-Passed H n l = (length l ≡ 0) ⊎ ((slice_index l 0 ≡ 35) ⊎ ((n ≡ 0) × (l ≡ H)))
+Passed H n l = (l ≡ []) ⊎ ((slice_index l 0 ≡ 35) ⊎ ((n ≡ 0) × (l ≡ H)))
 
 abbrev pub Spaceless : List ℕ → Type 0
-Spaceless l = (i : ℕ) → i < length l → slice_index l i ≢ 32
+Spaceless l = All (λ b. b ≢ 32) l
 
 pub record Cut (l d a : List ℕ) : Type 0 where
-  pub whole : l ≡ d ++ (32 ∷ a)
+  pub whole : l ≡ d ++ (codes " " ++ a)
   pub first : Spaceless d
 
 module _ {Q : Type 0} (W : List ℕ → Q → Type 0) where
@@ -73,4 +73,4 @@ module _ {Q : Type 0} (W : List ℕ → Q → Type 0) where
 
     abbrev pub NotRead : List (List ℕ) → ReadError → Type 0
     NotRead ls (Line n f) = (p : ℕ) × (n ≡ p + 1) × Stops ls p f
-    NotRead ls Memory = Unit {0}
+    NotRead ls Memory = ⊤
