@@ -1,6 +1,6 @@
 -- One more line of an account. Assumes nothing.
 use Rattle.std.proofs.Common.{◌≡◌, ℕ, ◌+◌, ◌<◌, List, [], ◌∷◌, ◌++◌, length, get_or, refl, inl, inr, add-one, Bor, Ok, Err, Result, MatchResult}
-use Rattle.std.specs.Prelude.{IsErrAnd}
+use Rattle.std.specs.Prelude.{IsErrAnd, IfErr}
 use Rattle.std.proofs.lemmas.List.{get_or-map, length-map}
 use Rattle.account.specs.declared.entry.Entry.{Entry}
 use Rattle.account.specs.declared.fault.Fault.{Fault}
@@ -36,7 +36,7 @@ module _ {Q : Type 0} (W : List ℕ → Q → Type 0) (H : List ℕ) (xs : List 
     )
 
     -- the error that s has is made of the fault that r has
-    pub stops_with : (r : Result (Entry Q) Fault) (s : Result (Entry Q) ReadError) (e : ReadError) → MatchResult r (λ e. Gives W (get_or xs n d).now e × (c < e.day)) (NoEntry W (get_or xs n d).now c) → MatchResult r (λ x. s ≡ Ok x) (λ f. IsErrAnd s (λ e. e ≡ Line (n + 1) f)) → s ≡ Err e → NotRead W H (texts xs) e
+    pub stops_with : (r : Result (Entry Q) Fault) (s : Result (Entry Q) ReadError) (e : ReadError) → IfErr r (NoEntry W (get_or xs n d).now c) → MatchResult r (λ x. s ≡ Ok x) (λ f. IsErrAnd s (λ e. e ≡ Line (n + 1) f)) → s ≡ Err e → NotRead W H (texts xs) e
     stops_with (Ok x) s e h made is = absurd cc
     stops_with (Err f) (Ok x) e h made is = absurd cc
     stops_with (Err f) (Err d) e h made is = let same : e ≡ Line (n + 1) f = cc in rw same (stops_here f h)

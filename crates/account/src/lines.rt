@@ -1,5 +1,5 @@
 //! Reading the lines of an account.
-ghost use Rattle.std.specs.Prelude.{◌<◌, ◌↔◌, IsTrue, MatchOption, MatchResult};
+ghost use Rattle.std.specs.Prelude.{◌<◌, ◌↔◌, IsTrue, IfOk, IfErr, MatchOption};
 ghost use Rattle.account.specs.Lines.{texts, Passed, Spaceless, Cut, Gives, NoEntry, Entries, NotRead};
 ghost use Rattle.account.specs.Texts.{WritesDay, Finds};
 
@@ -30,9 +30,9 @@ fn cut_at_space(line: &str) -> Option<(&str, &str)>
 
 /// The entry that the line gives, for a later day than `latest`: the day, one space, the amount.
 pub fn read_entry<Q: Metered>(line: &str, latest: u8) -> Result<Entry<Q>, Fault>
-    ensures { MatchResult result
-        (λ e. Gives Q.writes line.now e × (latest < e.day))
-        (NoEntry Q.writes line.now latest) }
+    ensures given { IfOk result (Gives Q.writes line.now) }
+    ensures later { IfOk result (λ e. latest < e.day) }
+    ensures refused { IfErr result (NoEntry Q.writes line.now latest) }
 {
     let (day, amount) = cut_at_space(line).ok_or(Fault::NoSpace)?;
     let day = read_day(day).ok_or(Fault::BadDay)?;
@@ -48,9 +48,8 @@ pub fn read_entry<Q: Metered>(line: &str, latest: u8) -> Result<Entry<Q>, Fault>
 /// The heading in the first line, and lines that are empty or begin with `#`, are passed over. The first other line that
 /// gives no next entry is named, and nothing is read after it.
 pub fn read_entries<Q: Metered>(heap: Global, lines: &[&str]) -> Result<Vec<Entry<Q>>, ReadError>
-    ensures { MatchResult result
-        (λ v. Entries Q.writes Q.heading (texts lines.now) v.items)
-        (NotRead Q.writes Q.heading (texts lines.now)) }
+    ensures read { IfOk result (λ v. Entries Q.writes Q.heading (texts lines.now) v.items) }
+    ensures refused { IfErr result (NotRead Q.writes Q.heading (texts lines.now)) }
 {
     let mut entries = Vec::new(heap);
     let mut latest = 0;

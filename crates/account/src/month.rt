@@ -1,5 +1,5 @@
 //! A month's entries, in the quantity that the heading names.
-ghost use Rattle.std.specs.Prelude.{◌↔◌, IsTrue, MatchResult};
+ghost use Rattle.std.specs.Prelude.{◌↔◌, IsTrue, IfOk, IfErr};
 ghost use Rattle.account.specs.Lines.{texts};
 ghost use Rattle.account.specs.Months.{Headed, MonthOf, NoMonth};
 
@@ -30,7 +30,8 @@ fn is_headed<Q: Metered>(lines: &[&str]) -> bool
 /// The entries that the lines give. They are masses where the first line is `quantity mass`; else they are advances of a
 /// counter, whether or not the first line is `quantity totaliser`.
 pub fn read_month(heap: Global, lines: &[&str]) -> Result<Month, ReadError>
-    ensures { MatchResult result (MonthOf (texts lines.now)) (NoMonth (texts lines.now)) }
+    ensures read { IfOk result (MonthOf (texts lines.now)) }
+    ensures refused { IfErr result (NoMonth (texts lines.now)) }
 {
     if is_headed::<Mass>(lines) {
         read_entries(heap, lines).map(Month::Masses)
