@@ -41,7 +41,9 @@ pub fn conflict_exactly_if_no_flow<Q: Quantity>()
 
 /// What masses, totalisers and components mean can be told apart by a test.
 pub fn amounts_can_be_told_apart()
-    ensures { Comparison mass_model.group × Comparison totaliser_model.group × Comparison components_model.group }
+    ensures masses { Comparison mass_model.group }
+    ensures totalisers { Comparison totaliser_model.group }
+    ensures components { Comparison components_model.group }
 {}
 
 /// At a stream in use outside a set of streams, the balanced flows that are zero on the set are all zero, or take every

@@ -7,4 +7,8 @@ pub returns : goal.returns
 returns c =
     let grams = compare_residues (2 ^ 64) (lit< tt) in
     let pair = compare_pairs grams grams in
-    (grams, compare_residues modulus (lit< tt), compare_pairs pair pair)
+    record {
+      masses = grams;
+      totalisers = compare_residues modulus (lit< tt);
+      components = compare_pairs pair pair;
+    }
