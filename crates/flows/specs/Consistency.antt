@@ -8,7 +8,7 @@
 -- Consistent G D t      each part without place 0 has the net amount zero
 -- Conflict G D t C      a set C without place 0 that no unread stream crosses has a net amount other than zero
 -- CutSum G D t n x      x is the cut sum of n: the readings that enter the side of its from unit, less those that leave it
-use Rattle.std.specs.Prelude.{◌≡◌, ℕ, ◌≤◌, Bool, false, Option}
+use Rattle.std.specs.Prelude.{◌≡◌, ◌≢◌, ℕ, ◌≤◌, Bool, false, Option}
 use Rattle.quantity.specs.Group.{Group}
 use Rattle.flows.specs.Drawings.{Drawing}
 use Rattle.flows.specs.Flows.{leaving, entering, net, read_set, readings}
@@ -22,7 +22,7 @@ module _ (G : Group) (D : Drawing) (t : ℕ → Option G.Element) where
     pub unit : v ≤ D.units
     pub part : Part D (Unread D (read_set t)) v C
     pub without_0 : C 0 ≡ false
-    pub not_zero : ¬ (net_reading C ≡ G.zero)
+    pub not_zero : net_reading C ≢ G.zero
 
   abbrev pub Inconsistent : Type 0
   Inconsistent = (v : ℕ) × (C : ℕ → Bool) × InDispute v C
@@ -33,7 +33,7 @@ module _ (G : Group) (D : Drawing) (t : ℕ → Option G.Element) where
   pub record Conflict (C : ℕ → Bool) : Type 0 where
     pub without_0 : C 0 ≡ false
     pub only_read_cross : Uncrossed D (Unread D (read_set t)) C
-    pub not_zero : ¬ (net_reading C ≡ G.zero)
+    pub not_zero : net_reading C ≢ G.zero
 
   pub record CutSum (n : ℕ) (x : G.Element) : Type 0 where
     pub side : ℕ → Bool

@@ -22,7 +22,7 @@
 -- read_set t            the numbers that have a reading
 -- amount G o            a reading as an amount, zero where there is none
 -- readings G t          the readings as amounts
-use Rattle.std.specs.Prelude.{◌≡◌, ℕ, ◌≤◌, Bool, true, if◌then◌else◌, not, ◌&&◌, is_some, Some, None, Option, nat_eq}
+use Rattle.std.specs.Prelude.{◌≡◌, ◌≢◌, ℕ, ◌≤◌, Bool, true, if◌then◌else◌, not, ◌&&◌, is_some, Some, None, Option, nat_eq}
 use Rattle.quantity.specs.Group.{Group}
 use Rattle.quantity.specs.Sums.{sum}
 use Rattle.flows.specs.Drawings.{Drawing, InUse}
@@ -61,7 +61,7 @@ abbrev pub Agrees : (G : Group) → Drawing → (ℕ → Option G.Element) → (
 Agrees G D t f = (k : ℕ) → InUse D k → (x : G.Element) → t k ≡ Some x → f k ≡ x
 
 abbrev pub AgreesBut : (G : Group) → Drawing → ℕ → (ℕ → Option G.Element) → (ℕ → G.Element) → Type 0
-AgreesBut G D n t f = (k : ℕ) → InUse D k → ¬ (k ≡ n) → (x : G.Element) → t k ≡ Some x → f k ≡ x
+AgreesBut G D n t f = (k : ℕ) → InUse D k → k ≢ n → (x : G.Element) → t k ≡ Some x → f k ≡ x
 
 abbrev pub ZeroOn : (G : Group) → Drawing → (ℕ → Bool) → (ℕ → G.Element) → Type 0
 ZeroOn G D S f = (k : ℕ) → InUse D k → S k ≡ true → f k ≡ G.zero

@@ -12,7 +12,7 @@
 -- Linked D R n       unread streams other than n join the two ends of n
 -- FromSide D R n C   C is the side of the from end of n: what unread streams other than n join to it
 -- ToSide D R n C     C is the side of its to end
-use Rattle.std.specs.Prelude.{◌≡◌, ℕ, ◌≤◌, Bool, true, false, ◌↔◌}
+use Rattle.std.specs.Prelude.{◌≡◌, ◌≢◌, ℕ, ◌≤◌, Bool, true, false, ◌↔◌}
 use Rattle.flows.specs.Drawings.{Drawing, InUse, Between}
 
 abbrev pub Read : Drawing → (ℕ → Bool) → ℕ → Type 0
@@ -22,7 +22,7 @@ abbrev pub Unread : Drawing → (ℕ → Bool) → ℕ → Type 0
 Unread D R k = InUse D k × (R k ≡ false)
 
 abbrev pub Others : (ℕ → Type 0) → ℕ → ℕ → Type 0
-Others S n k = S k × ¬ (k ≡ n)
+Others S n k = S k × (k ≢ n)
 
 -- A walk from place to place along streams of S.
 pub data Joined (D : Drawing) (S : ℕ → Type 0) : ℕ → ℕ → Type 0 where

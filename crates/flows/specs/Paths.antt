@@ -5,7 +5,7 @@
 -- Route D S a b ks vs a way from a to b along streams of S: ks are its streams in order, vs the places met after each
 -- ClosedPath D S n    a way along streams of S, n among them, that leaves a place and returns to it,
 --                     uses no stream twice and meets no other place twice
-use Rattle.std.specs.Prelude.{◌≡◌, ℕ, ◌⊎◌, List, [], ◌∷◌}
+use Rattle.std.specs.Prelude.{⊤, ◌≡◌, ℕ, ◌⊎◌, List, [], ◌∷◌}
 use Rattle.flows.specs.Drawings.{Drawing, Between}
 
 abbrev pub Member : ℕ → List ℕ → Type 0
@@ -13,7 +13,7 @@ Member x [] = ⊥
 Member x (y ∷ ys) = (x ≡ y) ⊎ Member x ys
 
 abbrev pub Distinct : List ℕ → Type 0
-Distinct [] = Unit {0}
+Distinct [] = ⊤
 Distinct (x ∷ xs) = ¬ Member x xs × Distinct xs
 
 pub data Route (D : Drawing) (S : ℕ → Type 0) : ℕ → ℕ → List ℕ → List ℕ → Type 0 where

@@ -18,7 +18,7 @@
 -- Rivalled              what an accepted rival writes: the plant is consistent, and the two such flows differ at n
 -- Disputed              what an accepted dispute answers and marks
 -- Surveys, Values, Rivals, Disputes   the whole answer of each question, refusals included; a refusal leaves the tables
-use Rattle.std.specs.Prelude.{◌≡◌, ℕ, zero, suc, ◌+◌, ◌<◌, ◌≤◌, Bool, false, if◌then◌else◌, ◌⊎◌, Some, None, Option, Result, ◌==◌}
+use Rattle.std.specs.Prelude.{⊤, ◌≡◌, ◌≢◌, ℕ, zero, suc, ◌+◌, ◌<◌, ◌≤◌, Bool, false, if◌then◌else◌, ◌⊎◌, Some, None, Option, Result, ◌==◌}
 use Rattle.std.specs.Option.{option_map}
 use Rattle.quantity.specs.Model.{Model}
 use Rattle.flows.specs.Classes.{Is, byte}
@@ -112,7 +112,7 @@ module _ {Q : Type 0} (m : Model Q) (D : Drawing) (t : ℕ → Option m.group.El
     pub other : ℕ → m.group.Element
     pub first : Written n one old_first new_first
     pub second : Written n other old_second new_second
-    pub differ : ¬ (one n ≡ other n)
+    pub differ : one n ≢ other n
 
   -- the lowest unit whose part is in dispute; 1 at the units of that part, 0 at the other units that a plant may have
   pub record Disputed (old : ℕ → Option ℕ) (answer : Q) (new : ℕ → Option ℕ) : Type 0 where
@@ -129,7 +129,7 @@ module _ {Q : Type 0} (m : Model Q) (D : Drawing) (t : ℕ → Option m.group.El
   Surveys places old r new = Answer number (SurveyFits places) (λ counts. Surveyed old counts new) (new ≡ old) r
 
   abbrev pub Values : ℕ → Result (Option Q) QuestionFault → Type 0
-  Values n r = Answer number (ValueFits n) (λ answer. plant.Consistent m.group D t × Valued n answer) (Unit {0}) r
+  Values n r = Answer number (ValueFits n) (λ answer. plant.Consistent m.group D t × Valued n answer) ⊤ r
 
   abbrev pub Rivals : ℕ → ℕ → (ℕ → Option Q) → ℕ → (ℕ → Option Q) → Result (Unit {0}) QuestionFault → (ℕ → Option Q) → (ℕ → Option Q) → Type 0
   Rivals n first old_first second old_second r new_first new_second =

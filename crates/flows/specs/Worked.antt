@@ -18,7 +18,7 @@
 -- given w                  what is given of a worked plant
 -- Shows g w                w is the plant g, and it is right
 -- WorkedOut gs ws          the rows ws are the plants gs, in order, and each is right
-use Rattle.std.specs.Prelude.{◌≡◌, ℕ, zero, suc, ◌<◌, ◌≤◌, Bool, false, if◌then◌else◌, List, [], ◌∷◌, map, Some, None, Ok, Err, Option, Result, nat_lt, slice_index_or}
+use Rattle.std.specs.Prelude.{⊤, ◌≡◌, ℕ, zero, suc, ◌<◌, ◌≤◌, Bool, false, if◌then◌else◌, List, [], ◌∷◌, map, Some, None, Ok, Err, Option, Result, nat_lt, slice_index_or}
 use Rattle.std.specs.Option.{option_map}
 use Rattle.std.specs.List.{slice_get}
 use Rattle.quantity.specs.Masses.{mass_model}
@@ -109,7 +109,7 @@ abbrev pub Shows : Given → Worked → Type 0
 Shows g w = (given w ≡ g) × Right w
 
 abbrev pub WorkedOut : List Given → List Worked → Type 0
-WorkedOut [] [] = Unit {0}
+WorkedOut [] [] = ⊤
 WorkedOut [] (w ∷ ws) = ⊥
 WorkedOut (g ∷ gs) [] = ⊥
 WorkedOut (g ∷ gs) (w ∷ ws) = Shows g w × WorkedOut gs ws
