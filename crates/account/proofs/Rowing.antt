@@ -4,7 +4,7 @@ use Rattle.std.proofs.lemmas.Bool.{cases_lt}
 use Rattle.std.proofs.lemmas.Grind.{common_steps}
 use Rattle.std.proofs.lemmas.Option.{gets}
 use Rattle.quantity.specs.Model.{Model}
-use Rattle.quantity.proofs.GroupSums.{sum_map_more}
+use Rattle.quantity.proofs.GroupSums.{sum_take_more}
 use Rattle.account.specs.declared.entry.Entry.{Entry}
 use Rattle.account.specs.declared.rows.Row.{Row}
 use Rattle.account.specs.Rows.{running, RowOf}
@@ -20,7 +20,7 @@ module _ {Q : Type 0} (m : Model Q) (es : List (Entry Q)) (i : ℕ) (rs : List (
   row = record { day = e.day; amount = e.amount; before = t; total = u }
 
   all : m.means u ≡ running m es (i + 1)
-  all = sum_map_more m.group (λ e. m.means e.amount) es i e (m.means t) (m.means u) inside read old.sum new
+  all = sum_take_more m.group (λ e. m.means e.amount) es i e (m.means t) (m.means u) inside read old.sum new
 
   latest : (k : ℕ) (f : Entry Q) (r : Row Q) → (k ≡ i) × (f ≡ e) × (r ≡ row) → RowOf m es k f r
   latest k f r h = rw (h.0, h.1, h.2) record { day = refl; amount = refl; before = old.sum; total = all }

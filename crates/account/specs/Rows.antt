@@ -4,9 +4,9 @@
 -- running m es k     the sum of the amounts of the first k entries
 -- RowOf m es k e r   r is the row of the entry e at place k: its day and amount, and the running totals around it
 -- Keeps m es rs t    rs has a row for each entry, in order, and t is the sum of all amounts
-use Rattle.std.specs.Prelude.{◌≡◌, ℕ, ◌+◌, List, Some, map, length, slice_get, slice_index_or}
+use Rattle.std.specs.Prelude.{◌≡◌, ℕ, ◌+◌, List, Some, map, length, take, slice_get}
 use Rattle.quantity.specs.Model.{Model}
-use Rattle.quantity.specs.Sums.{sum, sum_all}
+use Rattle.quantity.specs.Sums.{sum_all}
 use Rattle.account.specs.declared.entry.Entry.{Entry}
 use Rattle.account.specs.declared.rows.Row.{Row}
 
@@ -15,7 +15,7 @@ module _ {Q : Type 0} (m : Model Q) where
   amounts es = map (λ e. m.means e.amount) es
 
   abbrev pub running : List (Entry Q) → ℕ → m.group.Element
-  running es k = sum m.group k (λ i. slice_index_or (amounts es) i m.group.zero)
+  running es k = sum_all m.group (amounts (take k es))
 
   pub record RowOf (es : List (Entry Q)) (k : ℕ) (e : Entry Q) (r : Row Q) : Type 0 where
     pub day : r.day ≡ e.day

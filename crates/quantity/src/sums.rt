@@ -8,7 +8,7 @@ use crate::Quantity;
 use crate::mass::Mass;
 
 /// The sum of the amounts; zero where there are none.
-#[tactic(auto, using(crate::proofs::GroupSums::sum_map, crate::proofs::GroupSums::sum_map_more))]
+#[tactic(auto, using(crate::proofs::GroupSums::sum_take_more, crate::proofs::GroupSums::sum_take_all))]
 pub fn total<Q: Quantity>(amounts: &[Q]) -> Q
     ensures { Q.model.means result ≡ sum_all Q.model.group (map Q.model.means amounts.now) }
 {
