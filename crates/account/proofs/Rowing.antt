@@ -1,5 +1,5 @@
 -- One more row of an account. Assumes nothing.
-use Rattle.std.proofs.Common.{◌≡◌, ℕ, ◌+◌, ◌<◌, List, [], ◌∷◌, ◌++◌, Some, length, get_or, slice_get, refl, ⊎_elim, arith, length-append}
+use Rattle.std.proofs.Common.{◌≡◌, ℕ, ◌+◌, ◌<◌, List, [], ◌∷◌, ◌++◌, Some, length, slice_index_or, slice_get, refl, ⊎_elim, arith, length-append}
 use Rattle.std.proofs.lemmas.Bool.{cases_lt}
 use Rattle.std.proofs.lemmas.Grind.{common_steps}
 use Rattle.std.proofs.lemmas.Option.{gets}
@@ -15,7 +15,7 @@ pub record Sofar {Q : Type 0} (m : Model Q) (es : List (Entry Q)) (i : ℕ) (rs 
   pub each : (k : ℕ) (e : Entry Q) (r : Row Q) → slice_get es k ≡ Some e → slice_get rs k ≡ Some r → RowOf m es k e r
   pub sum : m.means t ≡ running m es i
 
-module _ {Q : Type 0} (m : Model Q) (es : List (Entry Q)) (i : ℕ) (rs : List (Row Q)) (t : Q) (old : Sofar m es i rs t) (e : Entry Q) (u : Q) (inside : i < length es) (read : e ≡ get_or es i e) (new : m.means u ≡ m.group.plus (m.means t) (m.means e.amount)) where
+module _ {Q : Type 0} (m : Model Q) (es : List (Entry Q)) (i : ℕ) (rs : List (Row Q)) (t : Q) (old : Sofar m es i rs t) (e : Entry Q) (u : Q) (inside : i < length es) (read : e ≡ slice_index_or es i e) (new : m.means u ≡ m.group.plus (m.means t) (m.means e.amount)) where
   abbrev row : Row Q
   row = record { day = e.day; amount = e.amount; before = t; total = u }
 

@@ -1,5 +1,5 @@
 -- One more line of an account. Assumes nothing.
-use Rattle.std.proofs.Common.{◌≡◌, ℕ, ◌+◌, ◌<◌, List, [], ◌∷◌, ◌++◌, length, get_or, refl, inl, inr, add-one, Bor, Ok, Err, Result, MatchResult}
+use Rattle.std.proofs.Common.{◌≡◌, ℕ, ◌+◌, ◌<◌, List, [], ◌∷◌, ◌++◌, length, slice_index_or, refl, inl, inr, add-one, Bor, Ok, Err, Result, MatchResult}
 use Rattle.std.specs.Prelude.{IsErrAnd, IfErr}
 use Rattle.std.proofs.lemmas.List.{get_or-map, length-map}
 use Rattle.account.specs.declared.entry.Entry.{Entry}
@@ -10,18 +10,18 @@ use Rattle.account.specs.Lines.{texts, Passed, Gives, NoEntry, Reads, NotRead}
 
 module _ {Q : Type 0} (W : List ℕ → Q → Type 0) (H : List ℕ) (xs : List (Bor (List ℕ))) (n : ℕ) (d : Bor (List ℕ)) (inside : n < length xs) (es : List (Entry Q)) (c : ℕ) (before : Reads W H (texts xs) n es c) where
   -- the line at place n, and its text
-  text_at : get_or (texts xs) n [] ≡ (get_or xs n d).now
+  text_at : slice_index_or (texts xs) n [] ≡ (slice_index_or xs n d).now
   text_at = get_or-map (λ x. x.now) xs n d [] inside
 
-  pub reads_passed : Passed H n (get_or xs n d).now → Reads W H (texts xs) (n + 1) es c
+  pub reads_passed : Passed H n (slice_index_or xs n d).now → Reads W H (texts xs) (n + 1) es c
   reads_passed passed = rw (add-one, text_at) (inl (passed, before))
 
-  module _ (no_pass : ¬ Passed H n (get_or xs n d).now) where
-    pub reads_entry : (e : Entry Q) → Gives W (get_or xs n d).now e × (c < e.day) → (fs : List (Entry Q)) → fs ≡ es ++ (e ∷ []) → Reads W H (texts xs) (n + 1) fs e.day
+  module _ (no_pass : ¬ Passed H n (slice_index_or xs n d).now) where
+    pub reads_entry : (e : Entry Q) → Gives W (slice_index_or xs n d).now e × (c < e.day) → (fs : List (Entry Q)) → fs ≡ es ++ (e ∷ []) → Reads W H (texts xs) (n + 1) fs e.day
     reads_entry e h fs is =
         rw (add-one, text_at) (inr (no_pass, (es, c, e, before, h.0, h.1, is, refl)))
 
-    stops_here : (f : Fault) → NoEntry W (get_or xs n d).now c f → NotRead W H (texts xs) (Line (n + 1) f)
+    stops_here : (f : Fault) → NoEntry W (slice_index_or xs n d).now c f → NotRead W H (texts xs) (Line (n + 1) f)
     stops_here f h = (
       n,
       refl,
@@ -36,7 +36,7 @@ module _ {Q : Type 0} (W : List ℕ → Q → Type 0) (H : List ℕ) (xs : List 
     )
 
     -- the error that s has is made of the fault that r has
-    pub stops_with : (r : Result (Entry Q) Fault) (s : Result (Entry Q) ReadError) (e : ReadError) → IfErr r (NoEntry W (get_or xs n d).now c) → MatchResult r (λ x. s ≡ Ok x) (λ f. IsErrAnd s (λ e. e ≡ Line (n + 1) f)) → s ≡ Err e → NotRead W H (texts xs) e
+    pub stops_with : (r : Result (Entry Q) Fault) (s : Result (Entry Q) ReadError) (e : ReadError) → IfErr r (NoEntry W (slice_index_or xs n d).now c) → MatchResult r (λ x. s ≡ Ok x) (λ f. IsErrAnd s (λ e. e ≡ Line (n + 1) f)) → s ≡ Err e → NotRead W H (texts xs) e
     stops_with (Ok x) s e h made is = absurd cc
     stops_with (Err f) (Ok x) e h made is = absurd cc
     stops_with (Err f) (Err d) e h made is = let same : e ≡ Line (n + 1) f = cc in rw same (stops_here f h)

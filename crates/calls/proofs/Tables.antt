@@ -1,5 +1,5 @@
 -- Tables by number that lists hold, and tables with one entry changed. Assumes nothing.
-use Rattle.std.proofs.Common.{◌≡◌, ℕ, zero, suc, ◌-◌, ◌<◌, ◌≤◌, eqb, List, length, get_or, set, replicate, sym, refl, ap, ◌∙◌, ⊎_elim, arith}
+use Rattle.std.proofs.Common.{◌≡◌, ℕ, zero, suc, ◌-◌, ◌<◌, ◌≤◌, ◌==◌, List, length, slice_index_or, set, replicate, sym, refl, ap, ◌∙◌, ⊎_elim, arith}
 use mathlib.Core.Path.{fun_ext}
 use Rattle.std.proofs.lemmas.List.{get_or-set_same, get_or-set_other, get_or_past}
 use Rattle.std.proofs.lemmas.Bool.{cond-true, cond-false, eq-eqb, ne_eqb, cases_eq}
@@ -8,10 +8,10 @@ use Rattle.calls.specs.Tables.{put}
 
 -- the entry that was changed, and the others
 pub put_here : {X : Type 0} (t : ℕ → X) (n k : ℕ) (v : X) → k ≡ n → put t n v k ≡ v
-put_here t n k v e = cond-true (eqb k n) v (t k) (eq-eqb k n e)
+put_here t n k v e = cond-true (k == n) v (t k) (eq-eqb k n e)
 
 pub put_apart : {X : Type 0} (t : ℕ → X) (n k : ℕ) (v : X) → (k ≡ n → ⊥) → put t n v k ≡ t k
-put_apart t n k v ne = cond-false (eqb k n) v (t k) (ne_eqb k n ne)
+put_apart t n k v ne = cond-false (k == n) v (t k) (ne_eqb k n ne)
 
 -- a table that has v at n and is t elsewhere
 pub is_put : {X : Type 0} (s t : ℕ → X) (n : ℕ) (v : X) → s n ≡ v → ((k : ℕ) → (k ≡ n → ⊥) → s k ≡ t k) → s ≡ put t n v
@@ -21,9 +21,9 @@ is_put s t n v here rest = fun_ext (λ k. ⊎_elim
     (cases_eq k n))
 
 -- number n of a list stands at place n - 1
-pub at_place : {X : Type 0} (d : X) (xs : List X) (n : ℕ) → 1 ≤ n → at_number d xs n ≡ get_or xs (n - 1) d
+pub at_place : {X : Type 0} (d : X) (xs : List X) (n : ℕ) → 1 ≤ n → at_number d xs n ≡ slice_index_or xs (n - 1) d
 at_place d xs zero low = absurd (omega arith)
-at_place d xs (suc k) low = let e : k ≡ suc k - 1 = omega arith in ap (λ i. get_or xs i d) e
+at_place d xs (suc k) low = let e : k ≡ suc k - 1 = omega arith in ap (λ i. slice_index_or xs i d) e
 
 pub at_past : {X : Type 0} (d : X) (xs : List X) (n : ℕ) → length xs < n → at_number d xs n ≡ d
 at_past d xs zero past = refl
@@ -42,7 +42,7 @@ at_set d xs n v low high = is_put (at_number d (set xs (n - 1) v)) (at_number d 
     rest (suc k) ne = let apart : k ≡ n - 1 → ⊥ = λ e. ne (omega arith) in get_or-set_other xs (n - 1) k v d apart
 
 -- a list of one repeated entry
-same_all : {X : Type 0} (n i : ℕ) (x : X) → get_or (replicate n x) i x ≡ x
+same_all : {X : Type 0} (n i : ℕ) (x : X) → slice_index_or (replicate n x) i x ≡ x
 same_all zero i x = refl
 same_all (suc n) zero x = refl
 same_all (suc n) (suc i) x = same_all n i x

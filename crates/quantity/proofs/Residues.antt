@@ -1,5 +1,5 @@
 -- Residues of whole numbers, of 64-bit numbers and of six-digit numbers. Assumes nothing.
-use Rattle.std.proofs.Common.{◌≡◌, ◌≢◌, ℕ, ◌+◌, ◌-◌, ◌*◌, ◌%◌, ◌^◌, ◌<◌, ◌≤◌, eqb, ltb, ℤ, int_eq, pos, negsuc, ◌+ℤ◌, nat_abs, Decides, sym, refl, ap, ◌∙◌, ap₂, mod-lt, mod-eq_of_lt, add-mul, mul-le-mul_left, arith, lit<, w64, SFits, to_z, of_z}
+use Rattle.std.proofs.Common.{◌≡◌, ◌≢◌, ℕ, ◌+◌, ◌-◌, ◌*◌, ◌%◌, ◌^◌, ◌<◌, ◌≤◌, ◌==◌, nat_lt, ℤ, int_eq, pos, negsuc, ◌+ℤ◌, nat_abs, IsTrue, ◌↔◌, sym, refl, ap, ◌∙◌, ap₂, mod-lt, mod-eq_of_lt, add-mul, mul-le-mul_left, arith, lit<, w64, FitsSigned, to_z, of_z}
 use native.Mathlib.Nat.{mod-mod, add-mod}
 use mir.Facts.{sfits_to_z}
 use borrow.Author.Differences.{up, down}
@@ -40,11 +40,11 @@ module _ {m : ℕ} (some : 0 < m) where
   pub residue_negative : (x r : Residue m) (a : ℕ) → a ≡ x.0 → r.0 ≡ (m - a) % m → r ≡ (modulo m some).minus x
   residue_negative x r a p e = residue_path (e ∙ ap (λ n. (m - n) % m) p)
 
-pub residue_test : {m : ℕ} (x y : Residue m) (a b : ℕ) → a ≡ x.0 → b ≡ y.0 → Decides (eqb a b) (x ≡ y)
+pub residue_test : {m : ℕ} (x y : Residue m) (a b : ℕ) → a ≡ x.0 → b ≡ y.0 → IsTrue (a == b) ↔ (x ≡ y)
 residue_test x y a b p q =
     (λ e. residue_path (sym p ∙ eqb-true a b e ∙ q), λ e. eq-eqb a b (p ∙ ap (λ r. r.0) e ∙ sym q))
 
-pub grams_bits : (z : ℤ) → SFits w64 z → (grams z).0 ≡ of_z w64 z
+pub grams_bits : (z : ℤ) → FitsSigned w64 z → (grams z).0 ≡ of_z w64 z
 grams_bits (pos n) f = omega arith
 grams_bits (negsuc n) f = omega arith
 
@@ -52,11 +52,11 @@ grams_of_bits : (n : ℕ) → n < 2 ^ 64 → (grams (to_z w64 n)).0 ≡ n
 grams_of_bits n h = grams_bits (to_z w64 n) (sfits_to_z (record { fits = h })) ∙ of_z-to_z w64 n h
 
 -- what the wrapping operations on 64 bits say of counts
-module _ (a : ℤ) (fits : SFits w64 a) where
+module _ (a : ℤ) (fits : FitsSigned w64 a) where
   pub grams_minus : grams (to_z w64 ((2 ^ 64 - of_z w64 a) % 2 ^ 64)) ≡ counts.minus (grams a)
   grams_minus = residue_negative (lit< tt) (grams a) _ (of_z w64 a) (sym (grams_bits a fits)) (grams_of_bits _ (mod-lt _ (lit< tt)))
 
-  module _ (b : ℤ) (fits_b : SFits w64 b) where
+  module _ (b : ℤ) (fits_b : FitsSigned w64 b) where
     pub grams_plus : grams (to_z w64 ((of_z w64 a + of_z w64 b) % 2 ^ 64)) ≡ counts.plus (grams a) (grams b)
     grams_plus =
         residue_sum (lit< tt) (grams a) (grams b) _ (of_z w64 a) (of_z w64 b) (sym (grams_bits a fits)) (sym (grams_bits b fits_b))
@@ -68,7 +68,7 @@ module _ (a : ℤ) (fits : SFits w64 a) where
         sym (to_z-of_z w64 a fits) ∙ ap (to_z w64) (sym (grams_bits a fits) ∙ ap (λ x. x.0) e ∙ grams_bits b fits_b)
         ∙ to_z-of_z w64 b fits_b
 
-    pub grams_test : Decides (int_eq a b) (grams a ≡ grams b)
+    pub grams_test : IsTrue (int_eq a b) ↔ (grams a ≡ grams b)
     grams_test = Decides-like _ (ap grams) grams_same (Decides-int_eq a b)
 
 -- one gram is not zero
@@ -77,10 +77,10 @@ one_gram e = absurd (omega (arith, ap (λ x. x.0) e))
 
 -- six digits are taken as they stand
 pub taken_small : (n : ℕ) → n < modulus → taken n ≡ n
-taken_small n h = cond-true (ltb n modulus) n 0 (lt-ltb n modulus h)
+taken_small n h = cond-true (nat_lt n modulus) n 0 (lt-ltb n modulus h)
 
 pub taken_below : (n : ℕ) → taken n < modulus
-taken_below n = cond_both (ltb n modulus) n 0 (λ d. d < modulus) (ltb-true n modulus) (λ _. lit< tt)
+taken_below n = cond_both (nat_lt n modulus) n 0 (λ d. d < modulus) (ltb-true n modulus) (λ _. lit< tt)
 
 -- the advance that a number means, as a number
 pub advance_taken : (n : ℕ) → (advance_of n).0 ≡ taken n
@@ -99,7 +99,7 @@ pub advance_minus : (a x : ℕ) → x ≡ taken a → advance_of ((modulus - x) 
 advance_minus a x p =
     residue_negative (lit< tt) (advance_of a) (advance_of ((modulus - x) % modulus)) x (p ∙ sym (advance_taken a)) (advance_rest (modulus - x))
 
-pub advance_test : (a b x y : ℕ) → x ≡ taken a → y ≡ taken b → Decides (eqb x y) (advance_of a ≡ advance_of b)
+pub advance_test : (a b x y : ℕ) → x ≡ taken a → y ≡ taken b → IsTrue (x == y) ↔ (advance_of a ≡ advance_of b)
 advance_test a b x y p q = residue_test (advance_of a) (advance_of b) x y (p ∙ sym (advance_taken a)) (q ∙ sym (advance_taken b))
 
 -- one step is not zero

@@ -1,5 +1,5 @@
 -- What eight bytes hold. Assumes nothing.
-use Rattle.std.proofs.Common.{◌≡◌, ℕ, ◌%◌, ◌^◌, ◌<◌, Bool, true, false, cond, ltb, List, ℤ, Some, None, sym, refl, ap, ◌∙◌, rules, arith, w64, SFits, to_z, of_z, MatchOption, Option, subst}
+use Rattle.std.proofs.Common.{◌≡◌, ℕ, ◌%◌, ◌^◌, ◌<◌, Bool, true, false, if◌then◌else◌, nat_lt, List, ℤ, Some, None, sym, refl, ap, ◌∙◌, rules, arith, w64, FitsSigned, to_z, of_z, MatchOption, Option, subst}
 use Rattle.std.specs.Bool.{then_some}
 use Rattle.std.specs.Int.{to_le_bytes}
 use mir.Facts.{sfits_to_z}
@@ -15,23 +15,23 @@ use Rattle.quantity.specs.Totalisers.{modulus, taken, totaliser_model}
 use Rattle.quantity.proofs.EightBytes.{written_eight, written_little, little_below, little_same}
 use Rattle.quantity.proofs.Residues.{grams_same, taken_small, taken_below, advance_taken}
 
-held_if : {X : Type 0} (t : Bool) (x : X) (P : X → Type 0) → t ≡ true → P x → MatchOption (cond t (Some x) None) ⊥ P
+held_if : {X : Type 0} (t : Bool) (x : X) (P : X → Type 0) → t ≡ true → P x → MatchOption (if t then Some x else None) ⊥ P
 held_if true x P e h = h
 held_if false x P e h = absurd (both_ways false refl e)
 
-held_both : {X : Type 0} (t : Bool) (x : X) (P : X → Type 0) → MatchOption (cond t (Some x) None) ⊥ P → (t ≡ true) × P x
+held_both : {X : Type 0} (t : Bool) (x : X) (P : X → Type 0) → MatchOption (if t then Some x else None) ⊥ P → (t ≡ true) × P x
 held_both true x P h = (refl, h)
 held_both false x P h = absurd h
 
 -- bytes that stand for a mass write it, and it is within the bounds
-mass_written : (z : ℤ) → SFits w64 z → (bs : List ℕ) → Eight bs → StandFor mass_model mass_form bs (record { 0 = z }) → (signed_little bs ≡ z) × (bounded (signed_little bs) ≡ true)
+mass_written : (z : ℤ) → FitsSigned w64 z → (bs : List ℕ) → Eight bs → StandFor mass_model mass_form bs (record { 0 = z }) → (signed_little bs ≡ z) × (bounded (signed_little bs) ≡ true)
 mass_written z fits bs eight h =
-    let bits : SFits w64 (signed_little bs) = sfits_to_z (record { fits = little_below bs eight }) in
+    let bits : FitsSigned w64 (signed_little bs) = sfits_to_z (record { fits = little_below bs eight }) in
     let held = held_both (bounded (signed_little bs)) (record { 0 = signed_little bs }) (λ b. mass_model.means b ≡ grams z) h in
     (grams_same (signed_little bs) bits z fits held.1, held.0)
 
 -- a mass outside the bounds has no bytes; within them it has only those that write it
-pub mass_bytes : (a : Mass) (r : Option (List ℕ)) → SFits w64 a.0 → r ≡ then_some (bounded a.0) (to_le_bytes w64 (of_z w64 a.0)) → BytesOf mass_model mass_form a r
+pub mass_bytes : (a : Mass) (r : Option (List ℕ)) → FitsSigned w64 a.0 → r ≡ then_some (bounded a.0) (to_le_bytes w64 (of_z w64 a.0)) → BytesOf mass_model mass_form a r
 mass_bytes a r fits is = subst (BytesOf mass_model mass_form a) (sym is) (by_bound (bounded z) refl)
   where
     z : ℤ
@@ -68,9 +68,9 @@ advance_bytes a r is =
     let e : little bs ≡ taken n = written_little (taken n) (omega arith) in
     let small : little bs < modulus = rw e below in
     subst (OnlyFor totaliser_model totaliser_form a) (sym is) (
-      held_if (ltb (little bs) modulus) (record { 0 = little bs }) means (lt-ltb (little bs) modulus small) (residue_path (ap (λ n. n % modulus) (taken_small (little bs) small ∙ e))),
+      held_if (nat_lt (little bs) modulus) (record { 0 = little bs }) means (lt-ltb (little bs) modulus small) (residue_path (ap (λ n. n % modulus) (taken_small (little bs) small ∙ e))),
       λ cs eight h.
-          let held = held_both (ltb (little cs) modulus) (record { 0 = little cs }) means h in
+          let held = held_both (nat_lt (little cs) modulus) (record { 0 = little cs }) means h in
           let small_c : little cs < modulus = ltb-true (little cs) modulus held.0 in
           little_same cs bs eight (written_eight (taken n))
           (sym (taken_small (little cs) small_c) ∙ sym (advance_taken (little cs)) ∙ ap (λ x. x.0) held.1 ∙ advance_taken n ∙ sym e),
