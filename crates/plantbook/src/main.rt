@@ -71,12 +71,12 @@ fn run(
 fn run_inputs(
     rt: &(impl Alloc<A = Global> + Print + Eprint + Input + Env + Files),
 ) -> anyhow::Result<()> {
-    let words: Vec<String> = env::args(rt)?.collect(rt.alloc())?;
-    if words.len() <= 1 {
+    let paths: Vec<String> = env::args(rt)?.skip(1).collect(rt.alloc())?;
+    if paths.is_empty() {
         let text = io::read_to_string(rt.alloc(), rt.reader());
         return run(rt, "standard input", text);
     }
-    for path in words.iter().skip(1) {
+    for path in &paths {
         run(rt, path, fs::read_to_string(rt, path))?;
     }
     Ok(())
