@@ -23,7 +23,8 @@ pub fn total<Q: Quantity>(amounts: &[Q]) -> Q
 /// The sum of masses, modulo 2^64. Of at most 1,024 masses within 10^12 grams either way it is their sum over the whole
 /// numbers: nothing has wrapped.
 pub fn total_mass(masses: &[Mass]) -> Mass
-    ensures wrapped { mass_model.means result ≡ sum_all mass_model.group (map mass_model.means masses.now) }
+    ensures wrapped { mass_model.means result
+        ≡ sum_all mass_model.group (map mass_model.means masses.now) }
     ensures exact { length masses.now ≤ 1024
         → All (λ m. Bounded m.0) masses.now
         → result.0 ≡ sum_all whole (map (λ m. m.0) masses.now) }

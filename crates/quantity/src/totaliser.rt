@@ -44,7 +44,8 @@ impl Quantity for Totaliser {
     /// The remainder of the plain sum by 1,000,000.
     #[tactic(auto, using(crate::proofs::Residues::advance_plus))]
     fn plus(self, other: Totaliser) -> Totaliser
-        ensures means { advance_of result.0 ≡ advances.plus (advance_of self.0) (advance_of other.0) }
+        ensures means { advance_of result.0
+            ≡ advances.plus (advance_of self.0) (advance_of other.0) }
         ensures value { result.0 ≡ (taken self.0 + taken other.0) % modulus }
     {
         Totaliser((self.advance() + other.advance()) % MODULUS)
