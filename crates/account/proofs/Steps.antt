@@ -1,12 +1,16 @@
 -- One more line of an account. Assumes nothing.
-use Rattle.std.proofs.Common.{◌≡◌, ℕ, ◌+◌, ◌<◌, List, [], ◌∷◌, ◌++◌, length, slice_index_or, refl, inl, inr, add-one, Bor, Ok, Err, Result, MatchResult}
+use Rattle.std.proofs.Common.{◌≡◌, ℕ, ◌+◌, ◌<◌, List, [], ◌∷◌, ◌++◌, length, slice_index_or, refl, Bor, Ok, Err, Result, MatchResult}
 use Rattle.std.specs.Prelude.{IsErrAnd, IfErr}
 use Rattle.std.proofs.lemmas.List.{get_or-map, length-map}
 use Rattle.account.specs.declared.entry.Entry.{Entry}
 use Rattle.account.specs.declared.fault.Fault.{Fault}
 use Rattle.account.specs.declared.fault.ReadError.{ReadError}
 use Rattle.account.specs.declared.fault.ReadError.TheVariants.{Line}
-use Rattle.account.specs.Lines.{texts, Passed, Gives, NoEntry, Reads, NotRead}
+use Rattle.account.specs.Lines.{texts, Passed, Gives, NoEntry, Reads, NotRead, none, passed, entry}
+
+-- before the first line nothing is read
+pub reads_none : {Q : Type 0} (W : List ℕ → Q → Type 0) (H : List ℕ) (ls : List (List ℕ)) (es : List (Entry Q)) (c : ℕ) → es ≡ [] → c ≡ 0 → Reads W H ls 0 es c
+reads_none W H ls es c no_entry no_day = rw (no_entry, no_day) none
 
 module _ {Q : Type 0} (W : List ℕ → Q → Type 0) (H : List ℕ) (xs : List (Bor (List ℕ))) (n : ℕ) (d : Bor (List ℕ)) (inside : n < length xs) (es : List (Entry Q)) (c : ℕ) (before : Reads W H (texts xs) n es c) where
   -- the line at place n, and its text
@@ -14,12 +18,12 @@ module _ {Q : Type 0} (W : List ℕ → Q → Type 0) (H : List ℕ) (xs : List 
   text_at = get_or-map (λ x. x.now) xs n d [] inside
 
   pub reads_passed : Passed H n (slice_index_or xs n d).now → Reads W H (texts xs) (n + 1) es c
-  reads_passed passed = rw (add-one, text_at) (inl (passed, before))
+  reads_passed pass = passed before (rw text_at pass)
 
   module _ (no_pass : ¬ Passed H n (slice_index_or xs n d).now) where
     pub reads_entry : (e : Entry Q) → Gives W (slice_index_or xs n d).now e × (c < e.day) → (fs : List (Entry Q)) → fs ≡ es ++ (e ∷ []) → Reads W H (texts xs) (n + 1) fs e.day
     reads_entry e h fs is =
-        rw (add-one, text_at) (inr (no_pass, (es, c, e, before, h.0, h.1, is, refl)))
+        rw is (entry e before (rw text_at no_pass) (rw text_at h.0) h.1)
 
     stops_here : (f : Fault) → NoEntry W (slice_index_or xs n d).now c f → NotRead W H (texts xs) (Line (n + 1) f)
     stops_here f h = (

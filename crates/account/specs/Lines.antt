@@ -16,7 +16,7 @@
 --                      the lines before it are read
 -- NotRead W H ls e     what an error says of the lines: the number of the one that stops, counted from 1;
 --                      nothing where memory failed
-use Rattle.std.specs.Prelude.{All, ⊤, ◌≡◌, ℕ, zero, suc, ◌+◌, ◌<◌, ◌≤◌, ◌⊎◌, List, [], ◌∷◌, ◌++◌, map, length, codes, ◌≢◌, slice_index, slice_index_or}
+use Rattle.std.specs.Prelude.{All, ⊤, ◌≡◌, ℕ, ◌+◌, ◌<◌, ◌≤◌, ◌⊎◌, List, [], ◌∷◌, ◌++◌, map, length, codes, ◌≢◌, slice_index, slice_index_or}
 use Rattle.std.specs.Borrow.{Bor}
 use Rattle.account.specs.declared.entry.Entry.{Entry}
 use Rattle.account.specs.declared.fault.Fault.{Fault}
@@ -53,12 +53,11 @@ module _ {Q : Type 0} (W : List ℕ → Q → Type 0) where
   NoEntry l c NotLater = (e : Entry Q) × Gives l e × (e.day ≤ c)
 
   module _ (H : List ℕ) where
-    abbrev pub Reads : List (List ℕ) → ℕ → List (Entry Q) → ℕ → Type 0
-    Reads ls zero es c = (es ≡ []) × (c ≡ 0)
-    Reads ls (suc n) es c =
-        (Passed H n (slice_index_or ls n []) × Reads ls n es c)
-        ⊎ ((¬ Passed H n (slice_index_or ls n [])) × ((before : List (Entry Q)) × (b : ℕ) × (e : Entry Q) × Reads ls n before b
-        × Gives (slice_index_or ls n []) e × (b < e.day) × (es ≡ before ++ (e ∷ [])) × (c ≡ e.day)))
+    pub data Reads (ls : List (List ℕ)) : ℕ → List (Entry Q) → ℕ → Type 0 where
+      none : Reads ls 0 [] 0
+      passed : {n c : ℕ} {es : List (Entry Q)} → Reads ls n es c → Passed H n (slice_index_or ls n []) → Reads ls (n + 1) es c
+      entry : {n c : ℕ} {es : List (Entry Q)} (e : Entry Q) → Reads ls n es c → ¬ Passed H n (slice_index_or ls n [])
+          → Gives (slice_index_or ls n []) e → c < e.day → Reads ls (n + 1) (es ++ (e ∷ [])) e.day
 
     abbrev pub Entries : List (List ℕ) → List (Entry Q) → Type 0
     Entries ls es = (c : ℕ) × Reads ls (length ls) es c
