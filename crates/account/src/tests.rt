@@ -68,9 +68,6 @@ fn the_first_bad_line_is_named(rt: HostRuntime) -> Result<(), Fail> {
 fn a_bad_line_gets_a_message(rt: HostRuntime) -> Result<(), Fail> {
     let heap = rt.alloc();
     let text = refusal(heap, &["1 5", "two 5"])?.to_string(heap)?;
-    assert_eq!(rt;
-        text.as_str(),
-        "line 2: the day is not a number from 1 to 31"
-    );
+    assert_eq!(rt; &*text, "line 2: the day is not a number from 1 to 31");
     Ok(())
 }

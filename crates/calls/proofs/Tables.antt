@@ -1,24 +1,21 @@
 -- Tables by number that lists hold, and tables with one entry changed. Assumes nothing.
-use Rattle.std.proofs.Common.{◌≡◌, ℕ, zero, suc, ◌-◌, ◌<◌, ◌≤◌, ◌==◌, List, length, slice_index_or, set, replicate, sym, refl, ap, ◌∙◌, ⊎_elim, arith}
+use Rattle.std.proofs.Common.{◌≡◌, ◌≢◌, ℕ, zero, suc, ◌-◌, ◌<◌, ◌≤◌, List, length, slice_index_or, set, replicate, refl, ap, ◌∙◌, arith}
 use mathlib.Core.Path.{fun_ext}
 use Rattle.std.proofs.lemmas.List.{get_or-set_same, get_or-set_other, get_or_past}
-use Rattle.std.proofs.lemmas.Bool.{cond-true, cond-false, eq-eqb, ne_eqb, cases_eq}
+use Rattle.std.proofs.lemmas.Bool.Decides.{nat_tests}
 use Rattle.flows.specs.Worked.{at_number}
 use Rattle.calls.specs.Tables.{put}
 
 -- the entry that was changed, and the others
 pub put_here : {X : Type 0} (t : ℕ → X) (n k : ℕ) (v : X) → k ≡ n → put t n v k ≡ v
-put_here t n k v e = cond-true (k == n) v (t k) (eq-eqb k n e)
+put_here t n k v e = grind (arith, nat_tests)
 
-pub put_apart : {X : Type 0} (t : ℕ → X) (n k : ℕ) (v : X) → (k ≡ n → ⊥) → put t n v k ≡ t k
-put_apart t n k v ne = cond-false (k == n) v (t k) (ne_eqb k n ne)
+pub put_apart : {X : Type 0} (t : ℕ → X) (n k : ℕ) (v : X) → k ≢ n → put t n v k ≡ t k
+put_apart t n k v ne = grind (arith, nat_tests)
 
 -- a table that has v at n and is t elsewhere
-pub is_put : {X : Type 0} (s t : ℕ → X) (n : ℕ) (v : X) → s n ≡ v → ((k : ℕ) → (k ≡ n → ⊥) → s k ≡ t k) → s ≡ put t n v
-is_put s t n v here rest = fun_ext (λ k. ⊎_elim
-    (λ e. ap s e ∙ here ∙ sym (put_here t n k v e))
-    (λ ne. rest k ne ∙ sym (put_apart t n k v ne))
-    (cases_eq k n))
+pub is_put : {X : Type 0} (s t : ℕ → X) (n : ℕ) (v : X) → s n ≡ v → ((k : ℕ) → k ≢ n → s k ≡ t k) → s ≡ put t n v
+is_put s t n v here rest = fun_ext (λ k. grind (arith, nat_tests, here, rest k))
 
 -- number n of a list stands at place n - 1
 pub at_place : {X : Type 0} (d : X) (xs : List X) (n : ℕ) → 1 ≤ n → at_number d xs n ≡ slice_index_or xs (n - 1) d
@@ -37,9 +34,9 @@ at_set d xs n v low high = is_put (at_number d (set xs (n - 1) v)) (at_number d 
     here : at_number d (set xs (n - 1) v) n ≡ v
     here = let h : n - 1 < length xs = omega arith in at_place d (set xs (n - 1) v) n low ∙ get_or-set_same xs (n - 1) v d h
 
-    rest : (k : ℕ) → (k ≡ n → ⊥) → at_number d (set xs (n - 1) v) k ≡ at_number d xs k
+    rest : (k : ℕ) → k ≢ n → at_number d (set xs (n - 1) v) k ≡ at_number d xs k
     rest zero ne = refl
-    rest (suc k) ne = let apart : k ≡ n - 1 → ⊥ = λ e. ne (omega arith) in get_or-set_other xs (n - 1) k v d apart
+    rest (suc k) ne = let apart : k ≢ n - 1 = λ e. ne (omega arith) in get_or-set_other xs (n - 1) k v d apart
 
 -- a list of one repeated entry
 same_all : {X : Type 0} (n i : ℕ) (x : X) → slice_index_or (replicate n x) i x ≡ x

@@ -3,7 +3,7 @@ ghost use Rattle.std.specs.Prelude.{◌≡◌};
 ghost use Rattle.calls.specs.declared.fault.Fault.TheVariants.{OfPlant, OfSource, OfIsolation, OfQuestion};
 ghost use Rattle.calls.specs.Refusals.{number};
 
-use flows::fault::QuestionFault;
+pub use flows::fault::QuestionFault;
 
 /// Why enter or strike is refused, with the number that it gives.
 #[derive(Clone, Copy, PartialEq, Eq, Debug)]

@@ -22,7 +22,7 @@
 -- read_set t            the numbers that have a reading
 -- amount G o            a reading as an amount, zero where there is none
 -- readings G t          the readings as amounts
-use Rattle.std.specs.Prelude.{◌≡◌, ◌≢◌, ℕ, ◌≤◌, Bool, true, if◌then◌else◌, not, ◌&&◌, is_some, Some, None, Option, nat_eq}
+use Rattle.std.specs.Prelude.{◌≡◌, ◌≢◌, ℕ, ◌≤◌, Bool, true, if◌then◌else◌, not, ◌&&◌, is_some, Some, None, Option, ◌==◌}
 use Rattle.quantity.specs.Group.{Group}
 use Rattle.quantity.specs.Sums.{sum}
 use Rattle.flows.specs.Drawings.{Drawing, InUse}
@@ -37,10 +37,10 @@ unfoldable pub total : (G : Group) → Drawing → (ℕ → Bool) → (ℕ → G
 total G D test f = total_below G D D.size test f
 
 abbrev pub arriving : (G : Group) → Drawing → (ℕ → G.Element) → ℕ → G.Element
-arriving G D f v = total G D (λ k. nat_eq (D.to k) v) f
+arriving G D f v = total G D (λ k. D.to k == v) f
 
 abbrev pub departing : (G : Group) → Drawing → (ℕ → G.Element) → ℕ → G.Element
-departing G D f v = total G D (λ k. nat_eq (D.from k) v) f
+departing G D f v = total G D (λ k. D.from k == v) f
 
 abbrev pub leaving : (G : Group) → Drawing → (ℕ → Bool) → (ℕ → G.Element) → G.Element
 leaving G D C f = total G D (λ k. C (D.from k) && not (C (D.to k))) f

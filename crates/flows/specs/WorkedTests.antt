@@ -25,7 +25,7 @@
 -- row_right             all of these
 --
 -- passes w              the row shows what the definitions give, for a worked plant of either quantity
-use Rattle.std.specs.Prelude.{ℕ, zero, suc, ◌^◌, Bool, true, false, not, ◌&&◌, ◌||◌, List, [], ◌∷◌, map, length, Some, None, Ok, Err, Option, Result, ◌==◌, nat_eq, nat_le, nat_lt, slice_index_or}
+use Rattle.std.specs.Prelude.{ℕ, zero, suc, ◌^◌, Bool, true, false, not, ◌&&◌, ◌||◌, List, [], ◌∷◌, map, length, Some, None, Ok, Err, Option, Result, ◌==◌, nat_le, nat_lt, slice_index_or}
 use Rattle.std.proofs.Common.{lit<}
 use Rattle.std.proofs.lemmas.Bool.{agree_below}
 use Rattle.quantity.specs.Masses.{mass_model}
@@ -127,7 +127,7 @@ module _ {Q : Type 0} (m : Model Q) (s : Comparison m.group) (row : WorkedPlant 
   dispute_fits Determined = false
 
   abbrev pub counted : Survey → ℕ → ℕ
-  counted v b = how_many (λ k. nat_eq (byte (slice_index_or v.classes k OutOfUse)) b) (length v.classes)
+  counted v b = how_many (λ k. byte (slice_index_or v.classes k OutOfUse) == b) (length v.classes)
 
   abbrev pub survey_right : Result Survey QuestionFault → Bool
   survey_right (Ok v) = none_fits survey_fits && (is_consistent && (length v.classes == length row.streams
@@ -155,7 +155,7 @@ module _ {Q : Type 0} (m : Model Q) (s : Comparison m.group) (row : WorkedPlant 
 
   abbrev pub flow_right : ℕ → List Q → Bool
   flow_right n xs = length xs == length row.streams
-      && (all_below (λ v. s.same (total_below m.group D top (λ k. nat_eq (D.to k) (suc v)) (flow_of xs)) (total_below m.group D top (λ k. nat_eq (D.from k) (suc v)) (flow_of xs))) row.units
+      && (all_below (λ v. s.same (total_below m.group D top (λ k. D.to k == suc v) (flow_of xs)) (total_below m.group D top (λ k. D.from k == suc v) (flow_of xs))) row.units
       && all_below (λ k. (suc k == n) || (not (D.used (suc k)) || allows (t (suc k)) (flow_of xs (suc k)))) (length row.streams))
 
   abbrev pub rival_right : ℕ → Result (Flows Q) QuestionFault → Bool

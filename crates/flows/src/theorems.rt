@@ -10,6 +10,7 @@ ghost use Rattle.flows.specs.Theorems.{BalancedFlowsHaveNoNet, SomeFlowExactlyIf
 use quantity::Quantity;
 
 /// A balanced flow has net zero over every set of places, with or without the surroundings.
+#[tactic(auto, using(crate::proofs::Balances::balanced_net))]
 pub fn balanced_flows_have_no_net<Q: Quantity>()
     ensures { BalancedFlowsHaveNoNet Q.model.group }
 {}
@@ -83,12 +84,14 @@ pub fn on_a_path_exactly_if_linked()
 {}
 
 /// Every stream number has exactly one class.
+#[tactic(auto, using(crate::proofs::Results::exactly_one_class))]
 pub fn exactly_one_class()
     ensures { ExactlyOneClass }
 {}
 
 /// The class and the cut sum that `specs/Decisions.antt` computes are those of the definitions, and so is the consistency
 /// where amounts can be told apart by a test.
+#[tactic(auto, using(crate::proofs::Agreement::decisions_are_right))]
 pub fn decisions_are_right<Q: Quantity>()
     ensures { DecisionsAreRight Q.model.group }
 {}

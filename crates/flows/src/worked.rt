@@ -75,6 +75,7 @@ pub enum Worked {
 }
 
 /// Hands back a plant that passes the test, and so shows what the definitions give on it.
+#[tactic(auto, using(crate::proofs::WorkedPlants::passing_shown))]
 fn checked(plant: Worked) -> Worked
     requires { IsTrue (passes plant) }
     ensures { Shows (given plant) result }

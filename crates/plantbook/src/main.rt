@@ -44,14 +44,15 @@ fn print_month(rt: &(impl Alloc<A = Global> + Print), month: Month) -> io::Resul
 }
 
 // What was read of the input with this name. If it is an error, that is first said on standard error.
-fn reported<T, E: Error>(rt: &impl Eprint, name: &str, read: Result<T, E>) -> anyhow::Result<T> {
-    match read {
-        Ok(value) => Ok(value),
-        Err(error) => {
-            eprintln!(rt; "plantbook: {name}: {error}")?;
-            Err(error.into())
-        }
+fn reported<T: Drop, E: Error>(
+    rt: &impl Eprint,
+    name: &str,
+    read: Result<T, E>,
+) -> anyhow::Result<T> {
+    if let Err(error) = &read {
+        eprintln!(rt; "plantbook: {name}: {error}")?;
     }
+    Ok(read?)
 }
 
 // Prints the account that the text gives, under its name.

@@ -47,7 +47,7 @@ fn mass_bytes_stop_at_the_bounds(rt: HostRuntime) -> Result<(), Fail> {
     for grams in [0, 1_000_000_000_000, -1_000_000_000_000] {
         assert!(rt; Mass::fits(i64::to_le_bytes(grams)));
         let bytes = Mass(grams).to_bytes().ok_or("outside the bounds")?;
-        assert!(rt; Mass::from_bytes(bytes).ok_or("not read again")?.0 == grams);
+        assert_eq!(rt; Mass::from_bytes(bytes), Some(Mass(grams)));
     }
     for grams in [1_000_000_000_001, -1_000_000_000_001, i64::MIN] {
         assert!(rt; !Mass::fits(i64::to_le_bytes(grams)));
@@ -89,6 +89,6 @@ fn amounts_are_written_in_decimal(rt: HostRuntime) -> Result<(), Fail> {
     let heap = rt.alloc();
     let past = Totaliser(1_000_007);
     let text = format!(in heap; "{SAMPLE}, {past}")?;
-    assert!(rt; text.as_str() == "1 -2 -9223372036854775808 4, 0");
+    assert_eq!(rt; &*text, "1 -2 -9223372036854775808 4, 0");
     Ok(())
 }
