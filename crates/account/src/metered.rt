@@ -20,6 +20,7 @@ pub trait Metered: Quantity {
         ensures { result.now ≡ heading };
 
     /// The amount that the text writes; none where it writes none.
+    // Not `FromStr`: the bounds are the account's, and a text outside them has no reason to give.
     fn read(text: &str) -> Option<Self>
         ensures { Finds (writes text.now) result };
 }

@@ -68,6 +68,7 @@ pub struct WorkedPlant<Q> {
 }
 
 /// A worked plant of one of the quantities.
+// `Drop` alone, as the plants are.
 #[derive(Drop)]
 pub enum Worked {
     OfMasses(WorkedPlant<Mass>),
