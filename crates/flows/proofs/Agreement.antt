@@ -10,7 +10,7 @@ use Rattle.flows.specs.Flows.{net, read_set, readings}
 use Rattle.flows.specs.Parts.{Unread, Others, Joined}
 use Rattle.flows.specs.Plants.{last_number}
 use Rattle.flows.specs.Questions.{unit_places, meant, holds, count, Surveyed, Valued, by_reading, by_cut_sum, no_amount, Disputed}
-use Rattle.flows.specs.Theorems.{DecisionsAreRight, SurveyAnswersAgree, ValueAnswersAgree, DisputeAnswersAgree}
+use Rattle.flows.specs.Theorems.{DecisionsAreRight, SurveyAnswersAgree, ValueAnswersAgree, RivalAnswersAgree, DisputeAnswersAgree}
 use Rattle.flows.proofs.Cuts.{ends_within}
 use Rattle.flows.proofs.Decisions.{class_decides}
 use Rattle.flows.proofs.PartNets.{part_net, consistent_if, inconsistent_if, not_both}
@@ -82,6 +82,9 @@ survey_answers_agree m D w t places old new other _ _ x y = grind arith
 
 pub value_answers_agree : {Q : Type 0} (m : Model Q) → ValueAnswersAgree m
 value_answers_agree m D w t n r q x y = grind (arith, valued_same m D w t n)
+
+pub rival_answers_agree : {Q : Type 0} (m : Model Q) → RivalAnswersAgree m
+rival_answers_agree m D t n first old_first second old_second r q new_first new_second other_first other_second x y = grind arith
 
 pub dispute_answers_agree : {Q : Type 0} (m : Model Q) → DisputeAnswersAgree m
 dispute_answers_agree m D w t places old new other r q x y = grind (arith, disputed_net m D w t old new other, disputed_table m D w t old new other)

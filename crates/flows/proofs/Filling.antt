@@ -35,6 +35,13 @@ module _ (G : Group) (D : Drawing) where
   abbrev pub bump : (ℕ → Element) → ℕ → Element → ℕ → Element
   bump r n x k = plus (r k) (pick G (n == k) x)
 
+  -- at the other streams nothing is added, and at n, where it had zero, x stands
+  pub bump_other : (r : ℕ → Element) (n : ℕ) (x : Element) (k : ℕ) → ¬ (n ≡ k) → bump r n x k ≡ r k
+  bump_other r n x k d = grind (arith, nat_tests, unit_r G)
+
+  pub bump_same : (r : ℕ → Element) (n : ℕ) (x : Element) (k : ℕ) → n ≡ k → r n ≡ G.zero → bump r n x k ≡ x
+  bump_same r n x k e free = grind (arith, nat_tests, unit)
+
   pub net_bump : (C : ℕ → Bool) (r : ℕ → Element) (n : ℕ) (x : Element) → InUse D n
       → net G D C (bump r n x) ≡ plus (net G D C r) (plus (pick G (C (D.from n)) x) (minus (pick G (C (D.to n)) x)))
   unfolding crossing

@@ -14,6 +14,14 @@ module _ (G : Group) where
   pub middle : (a b c d : Element) → plus (plus a b) (plus c d) ≡ plus (plus a c) (plus b d)
   middle a b c d = simp (assoc, left_comm b c d)
 
+  -- a sum with an element and its negative
+  pub cancel : (x y : Element) → plus x (plus (minus x) y) ≡ y
+  cancel x y = grind (arith, assoc x (minus x) y, inverse, unit)
+
+  -- the negative on the left
+  pub inverse_l : (x : Element) → plus (minus x) x ≡ zero
+  inverse_l x = comm (minus x) x ∙ inverse x
+
   -- what sums to zero with y is its negative
   pub negative_only : (x y : Element) → plus x y ≡ zero → x ≡ minus y
   negative_only x y e = grind (arith, assoc x y (minus y), unit, unit_r, inverse)

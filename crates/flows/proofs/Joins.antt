@@ -1,7 +1,7 @@
 -- Places that streams join. Assumes nothing.
 use Rattle.std.proofs.Common.{◌≡◌, ℕ, ◌≤◌, Bool, refl, inl, inr, ⊎_elim, arith}
 use Rattle.std.proofs.lemmas.Bool.Decides.{same_from_decides, Decides-like}
-use Rattle.flows.specs.Drawings.{Drawing, InUse, Within}
+use Rattle.flows.specs.Drawings.{Drawing}
 use Rattle.flows.specs.Parts.{Joined, here, along, Part, Uncrossed}
 
 module _ {D : Drawing} where
@@ -27,9 +27,9 @@ module _ {D : Drawing} where
   joined_ends k s = along k s (inl (refl, refl)) here
 
   -- a part is uncrossed
-  pub part_uncrossed : Within D → (S : ℕ → Type 0) → ((k : ℕ) → S k → InUse D k) → (v : ℕ) (C : ℕ → Bool) → Part D S v C → Uncrossed D S C
-  part_uncrossed w S used v C p k s = same_from_decides (C (D.from k)) (C (D.to k)) (p (D.from k) (w.from k (used k s)))
-      (Decides-like (C (D.to k)) (λ j. joined_trans j (joined_sym (joined_ends k s))) (λ j. joined_trans j (joined_ends k s)) (p (D.to k) (w.to k (used k s))))
+  pub part_uncrossed : (S : ℕ → Type 0) → ((k : ℕ) → S k → (D.from k ≤ D.units) × (D.to k ≤ D.units)) → (v : ℕ) (C : ℕ → Bool) → Part D S v C → Uncrossed D S C
+  part_uncrossed S w v C p k s = same_from_decides (C (D.from k)) (C (D.to k)) (p (D.from k) (w k s).0)
+      (Decides-like (C (D.to k)) (λ j. joined_trans j (joined_sym (joined_ends k s))) (λ j. joined_trans j (joined_ends k s)) (p (D.to k) (w k s).1))
 
   -- a place that streams join to a place within the drawing is within it
   pub joined_within : {S : ℕ → Type 0} {a b : ℕ} → ((k : ℕ) → S k → (D.from k ≤ D.units) × (D.to k ≤ D.units)) → a ≤ D.units → Joined D S a b → b ≤ D.units

@@ -35,6 +35,11 @@ module _ (G : Group) (D : Drawing) where
   unfolding crossing
   net_by_streams B C f g h = net_is B f ∙ sum_same G D.size _ _ (λ k lt. grind (arith, h k)) ∙ sym (net_is C g)
 
+  -- sets that are alike at the ends of streams in use
+  pub net_alike : (B C : ℕ → Bool) (f : ℕ → Element)
+      → ((k : ℕ) → InUse D k → (B (D.from k) ≡ C (D.from k)) × (B (D.to k) ≡ C (D.to k))) → net G D B f ≡ net G D C f
+  net_alike B C f h = net_by_streams B C f f (λ k us. grind (arith, h k us))
+
   -- flows that differ only where C is not crossed
   pub net_same : (C : ℕ → Bool) (f g : ℕ → Element)
       → ((k : ℕ) → InUse D k → (f k ≡ g k) ⊎ (C (D.from k) ≡ C (D.to k))) → net G D C f ≡ net G D C g
@@ -66,10 +71,14 @@ module _ (G : Group) (D : Drawing) where
       ∙ sym (net_is C f)
 
   -- a set and its complement
-  pub net_from_not : (C : ℕ → Bool) (f : ℕ → Element) → net G D (λ w. not (C w)) f ≡ G.zero → net G D C f ≡ G.zero
-  net_from_not C f h = grind (arith, unit, net_less C (λ _. true) f (λ _ _. (λ _. refl, λ _. refl)), net_none (λ _. true) f (λ _ _. inr refl))
+  pub net_not : (C : ℕ → Bool) (f : ℕ → Element) → plus (net G D C f) (net G D (λ w. not (C w)) f) ≡ G.zero
+  net_not C f = comm _ _ ∙ net_less C (λ _. true) f (λ _ _. (λ _. refl, λ _. refl)) ∙ net_none (λ _. true) f (λ _ _. inr refl)
 
-  net_alone : (f : ℕ → Element) (v : ℕ) → net G D (alone v) f ≡ plus (departing G D f v) (minus (arriving G D f v))
+  pub net_from_not : (C : ℕ → Bool) (f : ℕ → Element) → net G D (λ w. not (C w)) f ≡ G.zero → net G D C f ≡ G.zero
+  net_from_not C f h = grind (arith, unit_r G, net_not C f)
+
+  -- what streams take away from a place, less what they bring
+  pub net_alone : (f : ℕ → Element) (v : ℕ) → net G D (alone v) f ≡ plus (departing G D f v) (minus (arriving G D f v))
   unfolding crossing total
   net_alone f v = net_is (alone v) f ∙ sum_same G D.size _ _ (λ k _. grind (arith, unit, minus_zero G)) ∙ sum_difference G D.size _ _
 

@@ -14,7 +14,7 @@ use Rattle.flows.specs.Parts.{Unread, Part}
 use Rattle.flows.proofs.Balances.{parts_fillable}
 use Rattle.flows.proofs.Decisions.{above_size, part_is, net_short}
 use Rattle.flows.proofs.Merging.{labels_part}
-use Rattle.flows.proofs.Nets.{net_by_streams}
+use Rattle.flows.proofs.Nets.{net_alike}
 
 -- what cannot fail at any number below n cannot fail at all of them
 none_fails : (P : ℕ → Type 0) (n : ℕ) → ((v : ℕ) → v < n → ¬ ¬ P v) → ¬ ¬ ((v : ℕ) → v < n → P v)
@@ -29,7 +29,7 @@ module _ (G : Group) (D : Drawing) (within : Within D) where
   part_alike S v B C p q w lw = same_from_decides (B w) (C w) (p w lw) (q w lw)
 
   pub part_net : (S : ℕ → Type 0) (r : ℕ → Element) (v : ℕ) (B C : ℕ → Bool) → Part D S v B → Part D S v C → net G D B r ≡ net G D C r
-  part_net S r v B C p q = net_by_streams G D B C r r (λ k us. grind (arith, part_alike S v B C p q (D.from k) (within.from k us), part_alike S v B C p q (D.to k) (within.to k us)))
+  part_net S r v B C p q = net_alike G D B C r (λ k us. (part_alike S v B C p q (D.from k) (within.from k us), part_alike S v B C p q (D.to k) (within.to k us)))
 
   module _ (t : ℕ → Option Element) where
     abbrev own : ℕ → ℕ → Bool

@@ -55,12 +55,17 @@ module _ {D : Drawing} {S : ℕ → Type 0} where
   around n (next k s e r) d (inl q) back = let i = joined_trans (without n r (grind arith)) back in let j = joined_sym i in grind arith
   around n (next k s e r) d (inr m) back = around n r d.1 m (joined_trans back (along k (s, grind arith) e here))
 
+  -- the rest of a closed path joins the ends of n
+  pub joined_from_closed_path : (n : ℕ) → ClosedPath D S n → Joined D (Others S n) (D.from n) (D.to n)
+  joined_from_closed_path n c = around n c.route c.no_stream_twice c.through here
+
 -- a way along others of S is one along S that does not use n
 widen : {D : Drawing} {S : ℕ → Type 0} (n : ℕ) {a c : ℕ} {ks vs : List ℕ} → Route D (Others S n) a c ks vs → Route D S a c ks vs × ¬ Member n ks
 widen n stop = (stop, λ m. m)
 widen n (next k s e r) = let w = widen n r in (next k s.0 e w.0, grind arith)
 
-closed_path_from_joined : {D : Drawing} {S : ℕ → Type 0} (n : ℕ) → S n → Joined D (Others S n) (D.from n) (D.to n) → ClosedPath D S n
+-- n closes a way between its ends that does not use it
+pub closed_path_from_joined : {D : Drawing} {S : ℕ → Type 0} (n : ℕ) → S n → Joined D (Others S n) (D.from n) (D.to n) → ClosedPath D S n
 closed_path_from_joined {D} n s j =
     let p = straight (joined_sym j) in
     let w = widen n p.route in
@@ -75,4 +80,4 @@ closed_path_from_joined {D} n s j =
     }
 
 pub on_a_path_exactly_if_linked : OnAPathExactlyIfLinked
-on_a_path_exactly_if_linked D R n u = (λ c. around n c.route c.no_stream_twice c.through here, closed_path_from_joined n u)
+on_a_path_exactly_if_linked D R n u = (joined_from_closed_path n, closed_path_from_joined n u)

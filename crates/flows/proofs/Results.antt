@@ -1,5 +1,5 @@
 -- The theorems about flows. Assumes nothing.
-use Rattle.std.proofs.Common.{◌≡◌, ℕ, Bool, not, ◌&&◌, ◌⊎◌, ◌==◌, Option, sym, refl, ap, ◌∙◌, inl, inr, ⊎_elim, arith}
+use Rattle.std.proofs.Common.{◌≡◌, ℕ, Bool, false, not, ◌&&◌, ◌⊎◌, ◌==◌, Option, sym, refl, ap, ◌∙◌, inl, inr, ⊎_elim, arith}
 use Rattle.std.proofs.lemmas.Bool.{cases_Bool, cases_eq, cases_lt, iff_false}
 use Rattle.std.proofs.lemmas.Bool.Decides.{nat_tests}
 use Rattle.quantity.specs.Group.{Group}
@@ -8,11 +8,11 @@ use Rattle.flows.specs.Decisions.{Above, unread, linked, from_side, class, cut_s
 use Rattle.flows.specs.declared.class.Class.TheVariants.{OutOfUse}
 use Rattle.flows.specs.Drawings.{Drawing, InUse, Within}
 use Rattle.flows.specs.Filling.{Fillable}
-use Rattle.flows.specs.Flows.{net, PossibleBut, SomeFlow, read_set, readings}
+use Rattle.flows.specs.Flows.{net, Possible, PossibleBut, SomeFlow, read_set, readings}
 use Rattle.flows.specs.Parts.{Unread, Others, Joined, here, along, Uncrossed, Linked}
 use Rattle.flows.specs.Theorems.{SomeFlowExactlyIfConsistent, SomeConflict, ConflictExcludesFlows, FlowOrConflict, ConflictExactlyIfNoFlow, ZeroOrAnything, TwoSides, ObservableCarriesItsCutSum, RedundantCarriesOneAmount, UnobservableCarriesAnything, JustMeasuredCarriesAnything, ExactlyOneClass}
 use Rattle.flows.proofs.Balances.{balanced_net, balanced_plus, balanced_difference}
-use Rattle.flows.proofs.Cuts.{side_amount, zero_at, anything_at}
+use Rattle.flows.proofs.Cuts.{ends_within, side_amount, zero_at, anything_at}
 use Rattle.flows.proofs.Decisions.{above_size, side_is, linked_decides, class_decides, net_short, one_part_exactly_if_linked}
 use Rattle.flows.proofs.PartNets.{fill_consistent, not_both, not_neither, one_of_both}
 use Rattle.flows.proofs.Filling.{flow_exists, fill_free}
@@ -20,6 +20,16 @@ use Rattle.flows.proofs.Groups.{made_up, minus_difference, same_from_difference,
 use Rattle.flows.proofs.Joins.{joined_map, joined_trans, joined_sym, joined_ends, part_uncrossed}
 use Rattle.flows.proofs.Nets.{net_same}
 use Rattle.flows.proofs.Paths.{on_a_path_exactly_if_linked}
+
+-- a possible flow is possible but for the reading of n, and the other way round where n has none
+module _ (G : Group) (D : Drawing) (t : ℕ → Option G.Element) where
+  open G use {Element}
+
+  pub possible_from_but : (n : ℕ) → read_set t n ≡ false → (f : ℕ → Element) → PossibleBut G D n t f → Possible G D t f
+  possible_from_but n o f p = record { balanced = p.balanced; agrees = λ k us x e. grind (arith, p.agrees k us) }
+
+  pub but_from_possible : (n : ℕ) (f : ℕ → Element) → Possible G D t f → PossibleBut G D n t f
+  but_from_possible n f p = record { balanced = p.balanced; agrees = λ k us _. p.agrees k us }
 
 -- the computed cut sum is the cut sum
 pub cut_sum_is : (G : Group) (D : Drawing) (t : ℕ → Option G.Element) (m : ℕ) → Above D m → Within D → (n : ℕ) → InUse D n → (x : G.Element) → x ≡ cut_sum G D t m n → CutSum G D t n x
@@ -38,7 +48,7 @@ module _ (G : Group) where
 
   pub some_flow_exactly_if_consistent : SomeFlowExactlyIfConsistent G
   some_flow_exactly_if_consistent D w t = (
-    λ s v _ C p _. flow_net D w t s C (part_uncrossed w (Unread D (read_set t)) (λ _ u. u.0) v C p),
+    λ s v _ C p _. flow_net D w t s C (part_uncrossed (Unread D (read_set t)) (ends_within D w (Unread D (read_set t)) (λ _ u. u.0)) v C p),
     λ h.
         let s = flow_exists G D w (unread D (read_set t)) (λ k _ e. grind arith) (readings G t) (λ C c. fill_consistent G D w t h C (λ k u. c k (grind arith))) in
         (s.0, record { balanced = s.1; agrees = λ k us x e. grind (arith, s.2 k) }),
@@ -55,7 +65,7 @@ module _ (G : Group) where
 
   -- a part in dispute is a set in conflict
   conflict_from_part : (D : Drawing) → Within D → (t : ℕ → Option Element) → Inconsistent G D t → SomeConflict G D t
-  conflict_from_part D w t (v, C, d) = (C, record { without_0 = d.without_0; only_read_cross = part_uncrossed w (Unread D (read_set t)) (λ _ u. u.0) v C d.part; not_zero = d.not_zero })
+  conflict_from_part D w t (v, C, d) = (C, record { without_0 = d.without_0; only_read_cross = part_uncrossed (Unread D (read_set t)) (ends_within D w (Unread D (read_set t)) (λ _ u. u.0)) v C d.part; not_zero = d.not_zero })
 
   pub conflict_excludes_flows : ConflictExcludesFlows G
   conflict_excludes_flows D w t = (conflict_excludes D w t, λ i. conflict_excludes D w t (conflict_from_part D w t i))
@@ -114,8 +124,8 @@ module _ (G : Group) where
 
   pub unobservable_carries_anything : UnobservableCarriesAnything G
   unobservable_carries_anything D w t n h (f, p) x =
-      let g = any_amount D w t n h.0.0 ((on_a_path_exactly_if_linked D (read_set t) n h.0).0 h.1) f (record { balanced = p.balanced; agrees = λ k us _ x e. p.agrees k us x e }) x in
-      (g.0, record { balanced = g.1.balanced; agrees = λ k us x e. g.1.agrees k us (grind arith) x e }, g.2)
+      let g = any_amount D w t n h.0.0 ((on_a_path_exactly_if_linked D (read_set t) n h.0).0 h.1) f (but_from_possible G D t n f p) x in
+      (g.0, possible_from_but G D t n h.0.1 g.0 g.1, g.2)
 
   pub just_measured_carries_anything : JustMeasuredCarriesAnything G
   just_measured_carries_anything D w t n h (f, p) x = any_amount D w t n h.0.0 ((one_part_exactly_if_linked D (read_set t) n h.0.1).0 h.1) f p x

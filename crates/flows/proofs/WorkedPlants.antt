@@ -41,7 +41,7 @@ use Rattle.flows.proofs.Tallies.{how_many_same, how_many_short, count_is}
 
 -- tests of rows
 
-each_below : (p : ℕ → Bool) (n : ℕ) → all_below p n ≡ true → (k : ℕ) → k < n → p k ≡ true
+pub each_below : (p : ℕ → Bool) (n : ℕ) → all_below p n ≡ true → (k : ℕ) → k < n → p k ≡ true
 each_below p n = (Decides-below_and p (λ k. p k ≡ true) (all_below p) (λ k. (λ e. e, λ e. e)) refl (λ _. refl) n).0
 
 every_each : (p : QuestionFault → Bool) → every p ≡ true → (f : QuestionFault) → p f ≡ true
@@ -104,7 +104,7 @@ class_of_byte Unobservable = refl
 class_of_byte Redundant = refl
 class_of_byte JustMeasured = refl
 
-byte_same : (c d : Class) → byte c ≡ byte d → c ≡ d
+pub byte_same : (c d : Class) → byte c ≡ byte d → c ≡ d
 byte_same c d e = sym (class_of_byte c) ∙ ap class_of e ∙ class_of_byte d
 
 within_holds : (units : ℕ) (o : Option Ends) → within_test units o ≡ true → (from_unit o ≤ units) × (to_unit o ≤ units)
@@ -149,14 +149,14 @@ module _ {Q : Type 0} (m : Model Q) (s : Comparison m.group) (row : WorkedPlant 
   in_use : (k : ℕ) → D.used (suc k) ≡ true → InUse D (suc k)
   in_use k us = let l = listed k us in (let f = few in omega arith, us)
 
-  above : Above D (top m s row)
+  pub above : Above D (top m s row)
   above = record { size = let f = few in omega arith; unused = unused }
     where
       unused : (n : ℕ) → top m s row ≤ n → ¬ InUse D n
       unused zero le us = zero_unused us.1
       unused (suc k) le us = let l = listed k us.1 in omega arith
 
-  within_row : Within D
+  pub within_row : Within D
   within_row = record { from = λ n _. (at n).0; to = λ n _. (at n).1 }
     where
       at : (n : ℕ) → (D.from n ≤ row.units) × (D.to n ≤ row.units)
@@ -430,7 +430,7 @@ module _ {Q : Type 0} (m : Model Q) (s : Comparison m.group) (row : WorkedPlant 
           (λ past. absurd (true≢false (sym i ∙ get_or_past d.marks w false past)))
           (cases_lt w (length d.marks))
 
-row_shown : {Q : Type 0} (m : Model Q) (s : Comparison m.group) (row : WorkedPlant Q) → row_right m s row ≡ true → Shown m row
+pub row_shown : {Q : Type 0} (m : Model Q) (s : Comparison m.group) (row : WorkedPlant Q) → row_right m s row ≡ true → Shown m row
 row_shown m s row h =
     let a = and_parts (shape m s row) _ h in
     let b = and_parts (survey_right m s row row.survey) _ a.1 in
