@@ -1,13 +1,13 @@
 -- One more row of an account. Assumes nothing.
-use Rattle.std.proofs.Common.{◌≡◌, ℕ, ◌+◌, ◌<◌, List, [], ◌∷◌, ◌++◌, Some, length, slice_index_or, slice_get, refl, ⊎_elim, arith, length-append}
+use Rattle.std.proofs.Common.{◌≡◌, ℕ, ◌+◌, ◌<◌, List, [], ◌∷◌, ◌++◌, Some, length, slice_index_or, slice_get, refl, ◌∙◌, ⊎_elim, arith, length-append}
 use Rattle.std.proofs.lemmas.Bool.{cases_lt}
 use Rattle.std.proofs.lemmas.Grind.{common_steps}
 use Rattle.std.proofs.lemmas.Option.{gets}
 use Rattle.quantity.specs.Model.{Model}
-use Rattle.quantity.proofs.GroupSums.{sum_take_more}
+use Rattle.quantity.proofs.GroupSums.{sum_take_more, sum_take_all}
 use Rattle.account.specs.declared.entry.Entry.{Entry}
 use Rattle.account.specs.declared.rows.Row.{Row}
-use Rattle.account.specs.Rows.{running, RowOf}
+use Rattle.account.specs.Rows.{running, RowOf, Keeps}
 
 -- the rows of the first i entries, and their sum
 pub record Sofar {Q : Type 0} (m : Model Q) (es : List (Entry Q)) (i : ℕ) (rs : List (Row Q)) (t : Q) : Type 0 where
@@ -32,3 +32,11 @@ module _ {Q : Type 0} (m : Model Q) (es : List (Entry Q)) (i : ℕ) (rs : List (
     each = λ k f r at made. ⊎_elim (λ low. old.each k f r at (grind (arith, common_steps, gets))) (λ past. latest k f r (grind (arith, common_steps, gets, old.as_many))) (cases_lt k (length rs));
     sum = all;
   }
+
+-- the rows of all entries, and their total
+pub sofar_all : {Q : Type 0} (m : Model Q) (es : List (Entry Q)) (i : ℕ) (rs : List (Row Q)) (t : Q) → Sofar m es i rs t → i ≡ length es → Keeps m es rs t
+sofar_all m es i rs t h is = record {
+  as_many = h.as_many ∙ is;
+  each = h.each;
+  all = h.sum ∙ sum_take_all m.group (λ e. m.means e.amount) es i (omega (arith, is));
+}

@@ -6,7 +6,7 @@ use Rattle.account.specs.declared.entry.Entry.{Entry}
 use Rattle.account.specs.declared.fault.Fault.{Fault}
 use Rattle.account.specs.declared.fault.ReadError.{ReadError}
 use Rattle.account.specs.declared.fault.ReadError.TheVariants.{Line}
-use Rattle.account.specs.Lines.{texts, Passed, Gives, NoEntry, Reads, NotRead, none, passed, entry}
+use Rattle.account.specs.Lines.{texts, Passed, Gives, NoEntry, Reads, Entries, Stops, NotRead, none, passed, entry}
 
 -- before the first line nothing is read
 pub reads_none : {Q : Type 0} (W : List ℕ → Q → Type 0) (H : List ℕ) (ls : List (List ℕ)) (es : List (Entry Q)) (c : ℕ) → es ≡ [] → c ≡ 0 → Reads W H ls 0 es c
@@ -25,22 +25,22 @@ module _ {Q : Type 0} (W : List ℕ → Q → Type 0) (H : List ℕ) (xs : List 
     reads_entry e h fs is =
         rw is (entry e before (rw text_at no_pass) (rw text_at h.0) h.1)
 
-    stops_here : (f : Fault) → NoEntry W (slice_index_or xs n d).now c f → NotRead W H (texts xs) (Line (n + 1) f)
-    stops_here f h = (
-      n,
-      refl,
-      record {
-        inside = simp length-map inside;
-        not_passed = rw text_at no_pass;
-        entries = es;
-        latest = c;
-        before = before;
-        reason = rw text_at h;
-      },
-    )
+    pub stops_here : (f : Fault) → NoEntry W (slice_index_or xs n d).now c f → Stops W H (texts xs) n f
+    stops_here f h = record {
+      inside = simp length-map inside;
+      not_passed = rw text_at no_pass;
+      entries = es;
+      latest = c;
+      before = before;
+      reason = rw text_at h;
+    }
 
     -- the error that s has is made of the fault that r has
     pub stops_with : (r : Result (Entry Q) Fault) (s : Result (Entry Q) ReadError) (e : ReadError) → IfErr r (NoEntry W (slice_index_or xs n d).now c) → MatchResult r (λ x. s ≡ Ok x) (λ f. IsErrAnd s (λ e. e ≡ Line (n + 1) f)) → s ≡ Err e → NotRead W H (texts xs) e
     stops_with (Ok x) s e h made is = absurd cc
     stops_with (Err f) (Ok x) e h made is = absurd cc
-    stops_with (Err f) (Err d) e h made is = let same : e ≡ Line (n + 1) f = cc in rw same (stops_here f h)
+    stops_with (Err f) (Err d) e h made is = let same : e ≡ Line (n + 1) f = cc in rw same (n, refl, stops_here f h)
+
+-- the lines, once each of them is read
+pub reads_all : {Q : Type 0} (W : List ℕ → Q → Type 0) (H : List ℕ) (xs : List (Bor (List ℕ))) (n : ℕ) (es : List (Entry Q)) (c : ℕ) → Reads W H (texts xs) n es c → n ≡ length xs → Entries W H (texts xs) es
+reads_all W H xs n es c h is = (c, rw (length-map, ← is) h)

@@ -71,6 +71,10 @@ module _ (a : ℤ) (fits : FitsSigned w64 a) where
     pub grams_test : IsTrue (int_eq a b) ↔ (grams a ≡ grams b)
     grams_test = Decides-like _ (ap grams) grams_same (Decides-int_eq a b)
 
+-- a 64-bit number other than 0 means no count of zero
+pub grams_some : (a : ℤ) → FitsSigned w64 a → a ≢ pos 0 → grams a ≢ counts.zero
+grams_some a fits some e = some (grams_same a fits (pos 0) (omega (arith, ints)) e)
+
 -- one gram is not zero
 pub one_gram : grams (pos 1) ≢ counts.zero
 one_gram e = absurd (omega (arith, ap (λ x. x.0) e))
@@ -102,6 +106,12 @@ advance_minus a x p =
 pub advance_test : (a b x y : ℕ) → x ≡ taken a → y ≡ taken b → IsTrue (x == y) ↔ (advance_of a ≡ advance_of b)
 advance_test a b x y p q = residue_test (advance_of a) (advance_of b) x y (p ∙ sym (advance_taken a)) (q ∙ sym (advance_taken b))
 
+-- a number from 1 to 999,999 means no advance of zero
+pub advance_some : (n : ℕ) → 0 < n → n < modulus → advance_of n ≢ advances.zero
+advance_some n some below e =
+    let is : n ≡ 0 = sym (taken_small n below) ∙ sym (advance_taken n) ∙ ap (λ x. x.0) e in
+    omega arith
+
 -- one step is not zero
 pub one_step : advance_of 1 ≢ advances.zero
-one_step e = absurd (omega (arith, ap (λ x. x.0) e))
+one_step = advance_some 1 (lit< tt) (lit< tt)

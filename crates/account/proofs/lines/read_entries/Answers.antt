@@ -1,8 +1,7 @@
-use Rattle.std.proofs.Common.{◌≡◌, length, arith, rules}
+use Rattle.std.proofs.Common.{arith, rules}
 use Rattle.std.proofs.lemmas.Bool.Decides.{not_from_Decides}
-use Rattle.std.proofs.lemmas.List.{length-map}
 use Rattle.std.proofs.lemmas.Result.{err_from_is_err_and}
-use Rattle.account.proofs.Steps.{reads_passed, reads_entry, stops_with}
+use Rattle.account.proofs.Steps.{reads_passed, reads_entry, stops_with, reads_all}
 use Rattle.account.proofs.lines.read_entries.Goals as goal
 
 pub returns-in_err-entry-clause-refused : goal.returns-in_err-entry-clause-refused
@@ -20,5 +19,4 @@ loop-place-preserved g c =
 
 pub returns-clause-read : goal.returns-clause-read
 returns-clause-read g c =
-    let whole : c.loop-place.place-counter ≡ length c.args.lines.now = omega arith in
-    (c.loop-place.latest, rw (length-map, ← whole) c.loop-place.invariant)
+    reads_all g.Q.Metered.writes g.Q.Metered.heading c.args.lines.now c.loop-place.place-counter _ c.loop-place.latest c.loop-place.invariant (omega arith)
