@@ -12,7 +12,7 @@ use std::alloc::Global;
 pub fn is_passed_over<Q: Metered>(place: usize, line: &str) -> bool
     ensures { IsTrue result ↔ (Passed Q.heading place line.now) }
 {
-    line.is_empty() || line.starts_with('#') || (place == 0 && line == Q::heading())
+    matches!(line.as_bytes(), [] | [b'#', ..]) || (place == 0 && line == Q::heading())
 }
 
 fn read_day(text: &str) -> Option<u8>

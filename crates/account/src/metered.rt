@@ -52,6 +52,7 @@ impl Metered for Mass {
     }
 
     fn read(text: &str) -> Option<Mass> {
-        text.parse().ok().map(Mass).filter(|mass| mass.is_bounded())
+        let mass = Mass(text.parse().ok()?);
+        mass.is_bounded().then_some(mass)
     }
 }
