@@ -1,2 +1,4 @@
+pub mod Spaces
 pub mod Steps
+pub mod Heads
 pub mod Rowing
