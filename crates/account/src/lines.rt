@@ -47,7 +47,7 @@ pub fn read_entry<Q: Metered>(line: &str, latest: u8) -> Result<Entry<Q>, Fault>
 ///
 /// The heading in the first line, and lines that are empty or begin with `#`, are passed over. The first other line that
 /// gives no next entry is named, and nothing is read after it.
-#[tactic(auto, using(crate::proofs::Steps::reads_none))]
+#[tactic(auto, using(crate::proofs::Steps::reads_none, crate::proofs::Steps::reads_all))]
 pub fn read_entries<Q: Metered>(heap: Global, lines: &[&str]) -> Result<Vec<Entry<Q>>, ReadError>
     ensures read { IfOk result (λ v. Entries Q.writes Q.heading (texts lines.now) v.items) }
     ensures refused { IfErr result (NotRead Q.writes Q.heading (texts lines.now)) }

@@ -41,6 +41,7 @@ pub struct Account<Q> {
 
 impl<Q: Quantity> Account<Q> {
     /// The account of the entries, in their order.
+    #[tactic(auto, using(crate::proofs::Rowing::sofar_all))]
     pub fn new(heap: Global, entries: &[Entry<Q>]) -> Result<Account<Q>, AllocError>
         ensures { IfOk result (λ a. Keeps Q.model entries.now a.rows.items a.total) }
     {

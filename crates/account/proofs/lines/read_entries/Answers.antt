@@ -1,7 +1,7 @@
-use Rattle.std.proofs.Common.{arith, rules}
+use Rattle.std.proofs.Common.{rules}
 use Rattle.std.proofs.lemmas.Bool.Decides.{not_from_Decides}
 use Rattle.std.proofs.lemmas.Result.{err_from_is_err_and}
-use Rattle.account.proofs.Steps.{reads_passed, reads_entry, stops_with, reads_all}
+use Rattle.account.proofs.Steps.{reads_passed, reads_entry, stops_with}
 use Rattle.account.proofs.lines.read_entries.Goals as goal
 
 pub returns-in_err-entry-clause-refused : goal.returns-in_err-entry-clause-refused
@@ -16,7 +16,3 @@ loop-place-preserved-then-is_passed_over g c =
 pub loop-place-preserved : goal.loop-place-preserved
 loop-place-preserved g c =
     reads_entry g.Q.Metered.writes g.Q.Metered.heading c.args.lines.now c.loop-place.place-counter _ c.loop-place-test.true _ _ c.loop-place.invariant (not_from_Decides _ c.is_passed_over.ensures c.if-is_passed_over.false) c.in_ok-entry.entry (search rules) _ (search rules)
-
-pub returns-clause-read : goal.returns-clause-read
-returns-clause-read g c =
-    reads_all g.Q.Metered.writes g.Q.Metered.heading c.args.lines.now c.loop-place.place-counter _ c.loop-place.latest c.loop-place.invariant (omega arith)
