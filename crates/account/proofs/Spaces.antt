@@ -4,6 +4,7 @@ use Rattle.std.proofs.lemmas.List.Elements.{All-from_get_or}
 use Rattle.std.proofs.lemmas.Str.Pattern.{IsSplitOnceResult, split_parts}
 use Rattle.account.specs.Lines.{Spaceless, Cut}
 
+-- the parts round the first space of a line
 pub cut_from_split : (l : List ℕ) (r : Option (Bor (List ℕ) × Bor (List ℕ))) → IsSplitOnceResult 32 l r → MatchOption r (Spaceless l) (λ x. Cut l x.0.now x.1.now)
 cut_from_split l None found = All-from_get_or (λ b. b ≢ 32) l 0 (split_parts 32 l None found (lit< tt))
 cut_from_split l (Some x) found =

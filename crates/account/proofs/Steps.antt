@@ -25,6 +25,7 @@ module _ {Q : Type 0} (W : List ℕ → Q → Type 0) (H : List ℕ) (xs : List 
     reads_entry e h fs is =
         rw is (entry e before (rw text_at no_pass) (rw text_at h.0) h.1)
 
+    -- reading stops at place n, for the fault f
     pub stops_here : (f : Fault) → NoEntry W (slice_index_or xs n d).now c f → Stops W H (texts xs) n f
     stops_here f h = record {
       inside = simp length-map inside;

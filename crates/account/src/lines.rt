@@ -12,6 +12,7 @@ use std::alloc::Global;
 pub fn is_passed_over<Q: Metered>(place: usize, line: &str) -> bool
     ensures { IsTrue result ↔ (Passed Q.heading place line.now) }
 {
+    // The first byte tells; `starts_with` would decode a character of each line.
     matches!(line.as_bytes(), [] | [b'#', ..]) || (place == 0 && line == Q::heading())
 }
 

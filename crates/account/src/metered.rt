@@ -52,6 +52,7 @@ impl Metered for Mass {
     }
 
     fn read(text: &str) -> Option<Mass> {
+        // A chain as for totalisers costs more instructions here.
         let mass = Mass(text.parse().ok()?);
         mass.is_bounded().then_some(mass)
     }

@@ -1,22 +1,14 @@
 -- The number that eight bytes write. Assumes nothing.
-use Rattle.std.proofs.Common.{All, ◌≡◌, ℕ, suc, ◌+◌, ◌*◌, ◌^◌, ◌<◌, List, [], ◌∷◌, length, get_or, sym, refl, ◌∙◌, subst, ap₂, pow-suc, arith, lit<, rules, w64}
+use Rattle.std.proofs.Common.{All, ◌≡◌, ℕ, suc, ◌+◌, ◌*◌, ◌^◌, ◌<◌, List, [], ◌∷◌, length, get_or, sym, refl, ap, ◌∙◌, subst, ap₂, pow-suc, arith, lit<, rules, w64}
 use Rattle.std.specs.Int.{to_le_bytes}
 use Rattle.std.proofs.ByRecursion.{All-get_or}
+use Rattle.std.proofs.NetLemmas.Arrays.{eight_items}
 use Rattle.std.proofs.lemmas.Nat.{from_le_bytes-to_le_bytes_8}
 use Rattle.quantity.specs.Bytes.{Eight, little}
 
 -- the number of eight places, each by its weight
 pub little_eight : (bs : List ℕ) → length bs ≡ 8 → get_or bs 0 0 + get_or bs 1 0 * 256 + get_or bs 2 0 * 65536 + get_or bs 3 0 * 16777216 + get_or bs 4 0 * 4294967296 + get_or bs 5 0 * 1099511627776 + get_or bs 6 0 * 281474976710656 + get_or bs 7 0 * 72057594037927936 ≡ little bs
-little_eight [] e = absurd (omega arith)
-little_eight (a ∷ []) e = absurd (omega arith)
-little_eight (a ∷ b ∷ []) e = absurd (omega arith)
-little_eight (a ∷ b ∷ c ∷ []) e = absurd (omega arith)
-little_eight (a ∷ b ∷ c ∷ d ∷ []) e = absurd (omega arith)
-little_eight (a ∷ b ∷ c ∷ d ∷ f ∷ []) e = absurd (omega arith)
-little_eight (a ∷ b ∷ c ∷ d ∷ f ∷ g ∷ []) e = absurd (omega arith)
-little_eight (a ∷ b ∷ c ∷ d ∷ f ∷ g ∷ h ∷ []) e = absurd (omega arith)
-little_eight (a ∷ b ∷ c ∷ d ∷ f ∷ g ∷ h ∷ i ∷ []) e = omega arith
-little_eight (a ∷ b ∷ c ∷ d ∷ f ∷ g ∷ h ∷ i ∷ j ∷ bs) e = absurd (omega arith)
+little_eight bs e = let same = ap little (eight_items bs e) in omega arith
 
 -- the bytes that the library writes for a 64-bit number
 pub written_eight : (n : ℕ) → Eight (to_le_bytes w64 n)
